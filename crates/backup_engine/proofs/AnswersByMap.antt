@@ -21,12 +21,13 @@ use Rattle.backup_engine.specs.AnswersByMap.{AnswersByMap, AnswersEachCall, Come
 use Rattle.backup_engine.specs.ByFiles.{CutsAmong, RefusedByFiles, RunsEachByFiles}
 use Rattle.backup_engine.proofs.AtLines.{all_lines, all_steps, crash_by, last, ran}
 use Rattle.backup_engine.proofs.Ran.{Silent}
+use Rattle.backup_engine.specs.Seen.{devices, disk_and_sink}
 
 -- what a call said, whatever room was made before
 pub told : (D : Type 0) (view : D → DiskView) (command : CommandLine) (given : List ℕ) (rs : List Replied) (ending : Option Ending) (disk disk_now : DiskView)
     (source source_now : SourceView) (sink sink_now : SinkView) (AreSo : List Replied → Type 0)
-    → ((v : DiskView) → SpeaksAs command given ending rs v disk_now source source_now sink sink_now → Speaks AreSo ending rs v disk_now sink sink_now)
-    → DoesCommand D view command given rs ending disk disk_now source source_now sink sink_now → AreSo rs ⊎ Silent ending rs sink sink_now
+    → ((v : DiskView) → SpeaksAs command given ending rs (devices v disk_now source source_now sink sink_now) → Speaks AreSo ending rs v disk_now sink sink_now)
+    → DoesCommand D view command given rs ending (devices disk disk_now source source_now sink sink_now) → AreSo rs ⊎ Silent ending rs sink sink_now
 told D view command given rs ending disk disk_now source source_now sink sink_now AreSo says does = elim does.way [
   | inl (inl ((keeps, speaks), no_room)) ↦ spoke disk (says disk speaks)
   | inl (inr (mid, (made, later, (keeps, speaks)))) ↦ spoke (view mid) (says (view mid) speaks)
@@ -101,7 +102,7 @@ module _ (S : List ℕ → Type 0) (command : CommandLine) (given : List ℕ) (r
     (running : m.state ≡ Running) (law : ComesByMap command) (through : Through (command_of command))
     (keeps : (runs : RunsByFiles S rs m v w) → KeepsBytes command (all_lines S rs m v w runs) m (last S rs m v w runs) v w) where
   -- lines were run
-  said_answers : (ending : Option Ending) → Says command given ending rs sink sink_now → RunsByFiles S rs m v w → AnswersByMap S command given rs ending m v w sink sink_now
+  said_answers : (ending : Option Ending) → Says command given ending rs sink sink_now → RunsByFiles S rs m v w → AnswersByMap S command given rs ending m (disk_and_sink v sink) (disk_and_sink w sink_now)
   said_answers ending says runs =
       let are : AreLinesOf (command_of command) (all_lines S rs m v w runs) = (refl, says.follow runs.files) in
       let comes = law (all_lines S rs m v w runs) (all_steps S rs m v w runs) m runs.next running are (ran S rs m v w runs) in
@@ -130,7 +131,7 @@ module _ (S : List ℕ → Type 0) (command : CommandLine) (given : List ℕ) (r
         is ∙ ap (λ (n : FileMachine). n.now) runs.opens.others
         ∙ subst (λ (state : RunState (List ℕ)). MayBeFound of_files state m.now runs.opens.found) running (runs.opens.may tt)
 
-    no_line_answers : IsTrue (fails refusal) → RunsByFiles S rs m v w → AnswersByMap S command given rs (Some (Refused refusal)) m v w sink sink_now
+    no_line_answers : IsTrue (fails refusal) → RunsByFiles S rs m v w → AnswersByMap S command given rs (Some (Refused refusal)) m (disk_and_sink v sink) (disk_and_sink w sink_now)
     no_line_answers fails_so runs =
         let are : AreLinesOf (command_of command) (all_lines S rs m v w runs) =
         (refl, subst (AllFollow (command_of command) (opened_line runs.files)) (sym none) tt) in
@@ -158,11 +159,11 @@ module _ (S : List ℕ → Type 0) (command : CommandLine) (given : List ℕ) (r
         let at : MayBeFound of_files (freeing of_files stores m.state) m.now x = subst (λ (k : FileMachine). MayBeFound of_files k.state k.now x) is may in
         subst (λ (state : RunState (List ℕ)). MayBeFound of_files (freeing of_files stores state) m.now x) running at
 
-    unopened_answers : RefusedByFiles S (Some (Refused refusal)) rs m v w → AnswersByMap S command given rs (Some (Refused refusal)) m v w sink sink_now
+    unopened_answers : RefusedByFiles S (Some (Refused refusal)) rs m v w → AnswersByMap S command given rs (Some (Refused refusal)) m (disk_and_sink v sink) (disk_and_sink w sink_now)
     unopened_answers refused =
         let reason : refused.refusal ≡ refusal = (let both : Some (Refused refused.refusal) ≡ Some (Refused refusal) = sym refused.ending_is in cc) in
         let opens : Reopens 0 (Err refusal) m refused.next = subst (λ (r : Refusal). Reopens 0 (Err r) m refused.next) reason refused.opens in
-        subst (λ (l : List Replied). AnswersByMap S command given l (Some (Refused refusal)) m v w sink sink_now) (sym none) (record {
+        subst (λ (l : List Replied). AnswersByMap S command given l (Some (Refused refusal)) m (disk_and_sink v sink) (disk_and_sink w sink_now)) (sym none) (record {
           first = replies.Refused refusal;
           begins = (refl, refl);
           next = refused.next;
@@ -187,13 +188,13 @@ module _ (S : List ℕ → Type 0) (command : CommandLine) (given : List ℕ) (r
 -- By what the command said: which lines it ran, or that it ran none.
 module _ (D : Type 0) (view : D → DiskView) (command : CommandLine) (law : ComesByMap command) (through : Through (command_of command)) (given : List ℕ) (rs : List Replied)
     (ending : Option Ending) (old new : D) (source source_now : SourceView) (sink sink_now : SinkView)
-    (does : DoesCommand D view command given rs ending (view old) (view new) source source_now sink sink_now) (among : ByteSet) (m : FileMachine)
+    (does : DoesCommand D view command given rs ending (devices (view old) (view new) source source_now sink sink_now)) (among : ByteSet) (m : FileMachine)
     (distinct : HasNoCollisions (IsIn among)) (cuts : CutsAmong among rs m) (running : m.state ≡ Running) (known : KnownWith (view old).content (MayStand (IsIn among) m))
     (keeps : (runs : RunsByFiles (IsIn among) rs m (view old) (view new)) → KeepsBytes command (all_lines (IsIn among) rs m (view old) (view new) runs) m
     (last (IsIn among) rs m (view old) (view new) runs) (view old) (view new)) where
-  none_answers : Silent ending rs sink sink_now → AnswersByMap (IsIn among) command given rs ending m (view old) (view new) sink sink_now
+  none_answers : Silent ending rs sink sink_now → AnswersByMap (IsIn among) command given rs ending m (disk_and_sink (view old) sink) (disk_and_sink (view new) sink_now)
   none_answers silent =
-      subst (λ (e : Option Ending). AnswersByMap (IsIn among) command given rs e m (view old) (view new) sink sink_now) (sym silent.ending_is)
+      subst (λ (e : Option Ending). AnswersByMap (IsIn among) command given rs e m (disk_and_sink (view old) sink) (disk_and_sink (view new) sink_now)) (sym silent.ending_is)
       (elim (does.by_files among m distinct cuts known) [
         | inl runs ↦ no_line_answers (IsIn among) command given rs m (view old) (view new) sink sink_now running law through keeps silent.refusal silent.none silent.wrote
             (does.fails_alone silent.none among m distinct cuts known silent.refusal silent.ending_is) runs
@@ -202,16 +203,16 @@ module _ (D : Type 0) (view : D → DiskView) (command : CommandLine) (law : Com
       ])
 
   pub answers_call : (AreSo : List Replied → Type 0)
-      → ((v : DiskView) → SpeaksAs command given ending rs v (view new) source source_now sink sink_now → Speaks AreSo ending rs v (view new) sink sink_now)
+      → ((v : DiskView) → SpeaksAs command given ending rs (devices v (view new) source source_now sink sink_now) → Speaks AreSo ending rs v (view new) sink sink_now)
       → (AreSo rs → rs ≡ [] → Silent ending rs sink sink_now) → (AreSo rs → (rs ≡ []) ⊎ Says command given ending rs sink sink_now)
-      → AnswersByMap (IsIn among) command given rs ending m (view old) (view new) sink sink_now
+      → AnswersByMap (IsIn among) command given rs ending m (disk_and_sink (view old) sink) (disk_and_sink (view new) sink_now)
   answers_call AreSo speaks silent spoke =
       elim (told D view command given rs ending (view old) (view new) source source_now sink sink_now AreSo speaks does) [
         | inl are ↦ by are (spoke are)
         | inr none ↦ none_answers none
       ]
     where
-      by : AreSo rs → (rs ≡ []) ⊎ Says command given ending rs sink sink_now → AnswersByMap (IsIn among) command given rs ending m (view old) (view new) sink sink_now
+      by : AreSo rs → (rs ≡ []) ⊎ Says command given ending rs sink sink_now → AnswersByMap (IsIn among) command given rs ending m (disk_and_sink (view old) sink) (disk_and_sink (view new) sink_now)
       by are (inl none) = none_answers (silent are none)
       by are (inr says) = elim (does.by_files among m distinct cuts known) [
         | inl runs ↦ said_answers (IsIn among) command given rs m (view old) (view new) sink sink_now running law through keeps ending says runs

@@ -24,6 +24,7 @@ use Rattle.store_model.proofs.Copies.{data_within}
 use Rattle.backup_engine.proofs.CollectFaults.{fault_wider}
 use Rattle.backup_engine.proofs.CollectSteps.{IsMarking, both_from}
 use Rattle.backup_engine.proofs.OtherHeaders.{CameTo, copied_some, marked_some, other_header, recorded_some}
+use Rattle.backup_engine.specs.Seen.{devices}
 
 -- ---- entries
 
@@ -66,7 +67,7 @@ stuck_at s shown refusal (e ∷ es) before (inr (mid, (one, stuck))) =
 module _ (percent : ℕ) (v w : DiskView) (source : SourceView) (sink : SinkView) (holds : Holds v w) (old : Moment) (new : DiskView) (first : IsLater v old.disk)
     (step : IsLater old.disk new) (last : Reads Done new w) where
   abbrev IsCausedBy : Refusal → Type 0
-  IsCausedBy refusal = IsCaused (Collect percent) [] v w source source sink sink (Some (Refused refusal))
+  IsCausedBy refusal = IsCaused (Collect percent) [] (devices v w source source sink sink) (Some (Refused refusal))
 
   -- what reads showed in the step, where the content has it still
   since : (P : List ℕ → Type 0) → Known w.content P → Shows old.disk new P → ShownSince v w P

@@ -31,6 +31,7 @@ use Rattle.backup_engine.proofs.NoneCut.{ArePlain, none_cuts}
 use Rattle.backup_engine.proofs.Ran.{Silent}
 use Rattle.backup_engine.proofs.SinglesRun.{ingest_memory}
 use Rattle.backup_engine.proofs.IngestTails.{ArePut, Commit, Finish, IsTail, Nothing, Push, Tail, commit_last, ends_with, last_push, push_tail, put_follows, put_lines, pushes_give, pushes_last, tail_end}
+use Rattle.backup_engine.specs.Seen.{devices}
 
 module _ (given name : List ℕ) where
   -- ---- how it ended
@@ -221,7 +222,7 @@ module _ (given name : List ℕ) where
   -- ---- of a call
 
   module _ (D : Type 0) (view : D → DiskView) (rs : List Replied) (ending : Option Ending) (old new : D) (source source_now : SourceView) (sink sink_now : SinkView)
-      (does : DoesCommand D view (Ingest name) given rs ending (view old) (view new) source source_now sink sink_now) where
+      (does : DoesCommand D view (Ingest name) given rs ending (devices (view old) (view new) source source_now sink sink_now)) where
     ingest_wrote : WroteReply (stored_line name (root_of given)) ending sink sink_now
     ingest_wrote = elim does.way [
       | inl (inl ((keeps, speaks), no_room)) ↦ keeps.any.wrote

@@ -21,6 +21,7 @@ use Rattle.backup_engine.proofs.AnswersByMap.{stays_after}
 use Rattle.backup_engine.proofs.ListScripts.{no_lines, opens_found, passes_of, refused_leads, script_leads}
 use Rattle.backup_engine.proofs.ListsFormat.{formats_nothing}
 use Rattle.backup_engine.proofs.Reading.{same_reads, since_start}
+use Rattle.backup_engine.specs.Seen.{devices, disk_and_sink}
 
 -- ---- one call
 
@@ -50,7 +51,7 @@ read_stays v w reads = record { content = reads.content_is; images = λ image si
 -- what a call does to a map that it finds
 abbrev Answers : Option TableLine → (List ℕ → Type 0) → Call → Stored → DiskView → DiskView → Type 0
 Answers (Some (Single (Format slots))) S c m v w = Stays v w
-Answers (Some (Single command)) S c m v w = (store : Store) × AnswersByMap S command c.given c.rs c.ending (rested m store) v w c.sink c.sink_now
+Answers (Some (Single command)) S c m v w = (store : Store) × AnswersByMap S command c.given c.rs c.ending (rested m store) (disk_and_sink v c.sink) (disk_and_sink w c.sink_now)
 Answers (Some Run) S c m v w = (store : Store) × (RunsByFiles S c.rs (rested m store) v w ⊎ RefusedByFiles S c.ending c.rs (rested m store) v w)
 Answers line S c m v w = Stays v w
 
@@ -119,7 +120,7 @@ module _ (S : List ℕ → Type 0) (P : Stored → Type 0) (c : Call) (m : Store
   script_crash (store, inr none) d since = inl (unopened_crash store none.crash d since)
 
   -- a command
-  module _ (command : CommandLine) (store : Store) (is : AnswersByMap S command c.given c.rs c.ending (rested m store) v w c.sink c.sink_now) where
+  module _ (command : CommandLine) (store : Store) (is : AnswersByMap S command c.given c.rs c.ending (rested m store) (disk_and_sink v c.sink) (disk_and_sink w c.sink_now)) where
     may_after : (d : List ℕ) → MayStand S is.next d → OfSome S (AfterOne P command c) d
     may_after d may = (stored_in may.found, ((m, (has, is.found may.found may.may)), opens_found S is.next d may))
 
@@ -236,8 +237,8 @@ module _ (D : Type 0) (view : D → DiskView) (laws : ByTheMap D view) (among : 
     At = (image, told, rested_stands (IsIn among) m image opens)
 
     law_at : (command : CommandLine) → AnswersEachCall D view command
-        → DoesCommand D view command c.given c.rs c.ending (view v) (view w) c.source c.source_now c.sink c.sink_now
-        → AnswersByMap (IsIn among) command c.given c.rs c.ending (rested m opens.store) (view v) (view w) c.sink c.sink_now
+        → DoesCommand D view command c.given c.rs c.ending (devices (view v) (view w) c.source c.source_now c.sink c.sink_now)
+        → AnswersByMap (IsIn among) command c.given c.rs c.ending (rested m opens.store) (disk_and_sink (view v) c.sink) (disk_and_sink (view w) c.sink_now)
     law_at command law does =
         law c.given c.rs c.ending v w c.source c.source_now c.sink c.sink_now does among (rested m opens.store) apart given.given refl At
 
@@ -386,7 +387,7 @@ done_at_zero (Some (Refused refusal)) is = absurd (refused refusal is)
 
 module _ (D : Type 0) (view : D → DiskView) (slots : ℕ) (c : Call) (v w : DiskView) where
   abbrev DoesBy : Option TableLine → Option Ending → Type 0
-  DoesBy line ending = Does D view line c.given c.rs ending v w c.source c.source_now c.sink c.sink_now
+  DoesBy line ending = Does D view line c.given c.rs ending (devices v w c.source c.source_now c.sink c.sink_now)
 
   format_done : KeepsCall D view c v w → c.line ≡ Some (Single (Format slots)) → c.status ≡ 0 → Formats slots v w × IsDurable w
   format_done keeps line_is zero_is =

@@ -6,6 +6,7 @@ use Rattle.reply_text.specs.declared.ending.Ending.{Ending}
 use Rattle.reply_text.specs.declared.ending.Ending.TheVariants.{Source, Line}
 use Rattle.backup_engine.specs.Lists.{FormatsNothing}
 use Rattle.backup_engine.proofs.Reading.{since_began}
+use Rattle.backup_engine.specs.Seen.{devices}
 
 gate_of_format : (slots : ℕ) → byte_at 0 (format_cell slots) ≡ FORMAT_GATE
 unfolding sealed
@@ -28,7 +29,7 @@ module _ (slots : ℕ) (given : List ℕ) (v w : DiskView) (source source_now : 
   formats_none : Formats slots v w → ⊥
   formats_none formats = shown_content v w _ old formats.closed known gate
 
-  not_done : (ending : Option Ending) → IsCaused (Format slots) given v w source source_now sink sink_now ending → (e : Ending) × (ending ≡ Some e) × ¬ (e ≡ Sink)
+  not_done : (ending : Option Ending) → IsCaused (Format slots) given (devices v w source source_now sink sink_now) ending → (e : Ending) × (ending ≡ Some e) × ¬ (e ≡ Sink)
   not_done None caused = absurd (formats_none caused)
   not_done (Some Sink) caused = absurd (formats_none caused.0)
   not_done (Some Words) caused = (Words, refl, λ is. cc)
@@ -37,7 +38,7 @@ module _ (slots : ℕ) (given : List ℕ) (v w : DiskView) (source source_now : 
   not_done (Some Script) caused = (Script, refl, λ is. cc)
   not_done (Some (Refused refusal)) caused = (Refused refusal, refl, λ is. cc)
 
-  module _ (ending : Option Ending) (keeps : Keeps (Format slots) given ending v w source source_now sink sink_now) where
+  module _ (ending : Option Ending) (keeps : Keeps (Format slots) given ending (devices v w source source_now sink sink_now)) where
     content_stays : w.content ≡ v.content
     content_stays = let there = keeps.frame.content old known in there.1 ∙ ap (λ (b : List ℕ). Some b) (there.2 gate) ∙ sym known
 
@@ -48,7 +49,7 @@ module _ (slots : ℕ) (given : List ℕ) (v w : DiskView) (source source_now : 
     ]
 
 pub formats_nothing : (S : List ℕ → Type 0) (slots : ℕ) (c : Call) (m : Stored) (v w : DiskView) (image : List ℕ) → v.content ≡ Some image → OpensAs S m image
-    → Keeps (Format slots) c.given c.ending v w c.source c.source_now c.sink c.sink_now → FormatsNothing c v w
+    → Keeps (Format slots) c.given c.ending (devices v w c.source c.source_now c.sink c.sink_now) → FormatsNothing c v w
 formats_nothing S slots c m v w image told opens keeps =
     let gate = gate_open image opens.store opens.stands.holds.right in
     let not = not_done slots c.given v w c.source c.source_now c.sink c.sink_now image told gate c.ending keeps.any.caused in

@@ -37,6 +37,7 @@ use Rattle.backup_engine.specs.Line.{CommandLine, Format, Ingest, Restore, Delet
 use Rattle.backup_engine.specs.Line as table
 use Rattle.backup_engine.specs.Singles.{IsFirstOf, said}
 use Rattle.backup_engine.specs.TopCall.{DoesCommand}
+use Rattle.backup_engine.specs.Seen.{DiskAndSink, devices, disk_and_sink}
 
 -- a map, as what may be found of a machine
 abbrev pub rest : Stored → Found (List ℕ)
@@ -162,7 +163,7 @@ BeginsBy reply rs ending = ⊥
 -- The lines that the command ran, its opening first, come to what the plain map makes of it, from the machine m on: so what may be found at
 -- its end is the map after the command, or the map as it was. What they print was written.
 pub record AnswersByMap (S : List ℕ → Type 0) (command : CommandLine) (given : List ℕ) (rs : List Replied) (ending : Option Ending)
-    (m : FileMachine) (disk disk_now : DiskView) (sink sink_now : SinkView) : Type 0 where
+    (m : FileMachine) (old new : DiskAndSink) : Type 0 where
   pub first : ReplyValue
   pub begins : BeginsBy first rs ending
   pub next : FileMachine
@@ -171,16 +172,16 @@ pub record AnswersByMap (S : List ℕ → Type 0) (command : CommandLine) (given
   pub ended : EndsAs (command_of command) (said lines.Reopen first ∷ rs) ending
   pub found : (x : Found (List ℕ)) → MayBeFound of_files next.state next.now x → IsAfter command given ending m.now x
   pub wrote : WritesText (command_of command) ending
-      (printed (command_of command) (given_by 0 [] (said lines.Reopen first ∷ rs)) (said lines.Reopen first ∷ rs)) sink sink_now
-  pub left : LeavesBy first S m next disk disk_now
-  pub bytes : IfOpened first (KeepsBytes command (said lines.Reopen first ∷ rs) m next disk disk_now)
+      (printed (command_of command) (given_by 0 [] (said lines.Reopen first ∷ rs)) (said lines.Reopen first ∷ rs)) old.sink new.sink
+  pub left : LeavesBy first S m next old.disk new.disk
+  pub bytes : IfOpened first (KeepsBytes command (said lines.Reopen first ∷ rs) m next old.disk new.disk)
 
 -- So it is of each call of the command, by what the top call says of it: from each machine at rest for which the content may stand, where no
 -- two different data segments have one digest, of a set of those that the disk holds and that are given.
 abbrev pub AnswersEachCall : (D : Type 0) → (D → DiskView) → CommandLine → Type 0
 AnswersEachCall D view command = (given : List ℕ) (rs : List Replied) (ending : Option Ending) (old new : D)
     (source source_now : SourceView) (sink sink_now : SinkView)
-    → DoesCommand D view command given rs ending (view old) (view new) source source_now sink sink_now
+    → DoesCommand D view command given rs ending (devices (view old) (view new) source source_now sink sink_now)
     → (among : ByteSet) (m : FileMachine) → HasNoCollisions (IsIn among) → ((bytes : List ℕ) → IsSegmentOf given bytes → IsIn among bytes)
     → m.state ≡ Running → KnownWith (view old).content (MayStand (IsIn among) m)
-    → AnswersByMap (IsIn among) command given rs ending m (view old) (view new) sink sink_now
+    → AnswersByMap (IsIn among) command given rs ending m (disk_and_sink (view old) sink) (disk_and_sink (view new) sink_now)

@@ -24,7 +24,7 @@ use Rattle.backup_engine.specs.AnyDisk.{Formats}
 use Rattle.backup_engine.specs.Checking.{ChecksDisk}
 use Rattle.backup_engine.specs.Line.{CommandLine, Format, TableLine, Single, Run, Check}
 use Rattle.backup_engine.specs.Promise.{SinceStart, Stands}
-use Rattle.backup_engine.specs.Seen.{Seen}
+use Rattle.backup_engine.specs.Seen.{Seen, disk_and_sink}
 use Rattle.backup_engine.specs.TopCall.{Promise, KeepsLine}
 use Rattle.backup_engine.specs.ByFiles.{CutsAmong, RefusedByFiles, RunsByFiles}
 use Rattle.backup_engine.specs.Singles.{said}
@@ -168,7 +168,7 @@ pub record FormatsNothing (c : Call) (disk disk_now : DiskView) : Type 0 where
 abbrev pub AnswersBy : (List ℕ → Type 0) → CommandLine → Call → Stored → DiskView → DiskView → Type 0
 AnswersBy S (Format slots) c m disk disk_now = FormatsNothing c disk disk_now
 AnswersBy S command c m disk disk_now = (store : Store) × KnownWith disk.content (MayStand S (rested m store))
-    × AnswersByMap S command c.given c.rs c.ending (rested m store) disk disk_now c.sink c.sink_now
+    × AnswersByMap S command c.given c.rs c.ending (rested m store) (disk_and_sink disk c.sink) (disk_and_sink disk_now c.sink_now)
 
 -- A command that is called after them answers by one of these maps: that of the content which it finds.
 abbrev pub AnswersByTheMap : (D : Type 0) → (D → DiskView) → Type 0

@@ -13,6 +13,7 @@ use Rattle.store_state.specs.Refused.{blames}
 use Rattle.recovery.specs.Room.{RoomMade}
 use Rattle.script_runner.specs.Acts.{Acts}
 use Rattle.script_runner.specs.AnyDisk.{LinesGoOn, tells_fault}
+use Rattle.session_turns.specs.Turns.{session_at}
 
 -- The same disk, later, whose count of faults tells how calls ended.
 pub record Went (by : Ending) (old new : DiskView) : Type 0 where
@@ -122,12 +123,12 @@ module _ (C : Type 0) (state : C → CoreState) where
         by_push false true is = same refusals.TooLong refl is
         by_push false false is = absurd cc
 
-    fed_went : (refusal : Refusal) (bytes : List ℕ) (s t : SessionState) (old new : C) → Feeds C state actor (Err refusal) bytes s t old new →
+    fed_went : (refusal : Refusal) (bytes : List ℕ) (s t : SessionState) (old new : C) → Feeds C state actor (Err refusal) bytes (session_at s old) (session_at t new) →
         GoesBy (ending_of (blames refusal)) old new
     fed_went refusal bytes s t old new (inl stopped) = stopped_went refusal s t old new stopped.0
     fed_went refusal bytes s t old new (inr long) = none_failed refusal old new (not_failed t _ refusal long.2) (turns_went long.0 s t old new long.1)
 
-    put_went : (name : List ℕ) (refusal : Refusal) (s t : SessionState) (old new : C) → RefusesPut C state actor name refusal s t old new →
+    put_went : (name : List ℕ) (refusal : Refusal) (s t : SessionState) (old new : C) → RefusesPut C state actor name refusal (session_at s old) (session_at t new) →
         GoesBy (ending_of (blames refusal)) old new
     put_went name refusal s t old new (inl stopped) = stopped_went refusal s t old new stopped
     put_went name refusal s t old new (inr done) =

@@ -127,9 +127,11 @@ module _ (percent : ℕ) (S : List ℕ → Type 0) (rs : List Replied) (m : File
   room : MakesRoom m runs.opened.store
   room =
       let may : runs.opens.found ≡ m.now = subst (λ (state : RunState (List ℕ)). MayBeFound of_files state m.now runs.opens.found) running (runs.opens.may tt) in
-      let same : runs.opens.before ≡ m.store = subst (λ (state : RunState (List ℕ)). Stands of_files state m.store runs.opens.before) running (runs.opens.same tt) in
-      (runs.opens.freed, subst (λ (x : Found (List ℕ)). FreesTo (NamesNeed of_files x) runs.opens.freed m.store runs.opened.store) may
-          (subst (λ (s : Store). FreesTo (NamesNeed of_files runs.opens.found) runs.opens.freed s runs.opened.store) same (runs.opens.frees tt)))
+      let same : runs.opens.before ≡ m.store = subst (λ (state : RunState (List ℕ)). Stands of_files state m.store runs.opens.before) running (runs.opens.same tt) in (
+        runs.opens.freed,
+        subst (λ (x : Found (List ℕ)). FreesTo (NamesNeed of_files x) runs.opens.freed m.store runs.opened.store) may
+            (subst (λ (s : Store). FreesTo (NamesNeed of_files runs.opens.found) runs.opens.freed s runs.opened.store) same (runs.opens.frees tt)),
+      )
 
   pub keeps_bytes : KeepsBytes (Collect percent) (all_lines S rs m v w runs) m (last S rs m v w runs) v w
   keeps_bytes whole old told = by (runs.bytes.1.0.0 old told)

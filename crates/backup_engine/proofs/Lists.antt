@@ -314,15 +314,27 @@ module _ (D : Type 0) (view : D → DiskView) (laws : ByTheMap D view) (among : 
 
 pub answers_by_the_map : (D : Type 0) (view : D → DiskView) → ByTheMap D view → AnswersByTheMap D view
 answers_by_the_map D view laws among m calls last command old mid new begins run keeps line_is =
-    let one = last_finds D view laws among m calls last old mid new begins run keeps in
-    (one.0, (one.1.0, one.1.1, command_answers D view laws among begins.apart last one.0 mid new one.1.1.0 (given_last among calls last begins.given) one.1.1.1 one.1.1.2 command
-    (subst (λ (l : Option TableLine). KeepsAs D view l last (view mid) (view new)) line_is keeps)))
+    let one = last_finds D view laws among m calls last old mid new begins run keeps in (
+      one.0,
+      (
+        one.1.0,
+        one.1.1,
+        command_answers D view laws among begins.apart last one.0 mid new one.1.1.0 (given_last among calls last begins.given) one.1.1.1 one.1.1.2 command
+            (subst (λ (l : Option TableLine). KeepsAs D view l last (view mid) (view new)) line_is keeps),
+      ),
+    )
 
 pub runs_by_the_map : (D : Type 0) (view : D → DiskView) → ByTheMap D view → RunsByTheMap D view
 runs_by_the_map D view laws among m calls last old mid new begins run keeps line_is =
-    let one = last_finds D view laws among m calls last old mid new begins run keeps in
-    (one.0, (one.1.0, one.1.1, run_answers D view laws among begins.apart last one.0 mid new one.1.1.0 (given_last among calls last begins.given) one.1.1.1 one.1.1.2
-    (subst (λ (l : Option TableLine). KeepsAs D view l last (view mid) (view new)) line_is keeps)))
+    let one = last_finds D view laws among m calls last old mid new begins run keeps in (
+      one.0,
+      (
+        one.1.0,
+        one.1.1,
+        run_answers D view laws among begins.apart last one.0 mid new one.1.1.0 (given_last among calls last begins.given) one.1.1.1 one.1.1.2
+            (subst (λ (l : Option TableLine). KeepsAs D view l last (view mid) (view new)) line_is keeps),
+      ),
+    )
 
 pub survives_a_crash : (D : Type 0) (view : D → DiskView) → ByTheMap D view → SurvivesACrash D view
 survives_a_crash D view laws among m calls last old mid new begins run keeps c since =

@@ -79,7 +79,7 @@ module _ (given name : List ℕ) (sink sink_now : SinkView) where
   restore_says rs (Some Sink) (segments, (bytes, (reads, (part, ((rest, first), wrote))))) =
       inr (read_so (Some Sink) rs segments (said (lines.Next 0) (replies.Bytes 0 bytes)) reads (record {
         gave = λ files. tt;
-    follow = read_follow segments (said (lines.Next 0) (replies.Bytes 0 bytes)) reads.0 refl;
+        follow = read_follow segments (said (lines.Next 0) (replies.Bytes 0 bytes)) reads.0 refl;
         found = λ files m n comes x may. comes.found x may;
         ended = λ files. (said (lines.Next 0) (replies.Bytes 0 bytes), read_last segments (said (lines.Next 0) (replies.Bytes 0 bytes)) reads.0 files, (bytes, refl));
         wrote = λ files m n comes. wrote_first sink.written sink_now.written
@@ -101,7 +101,7 @@ module _ (given name : List ℕ) (sink sink_now : SinkView) where
   restore_says rs (Some (Refused refusal)) (inr (inr (segments, (reads, wrote)))) =
       inr (read_so (Some (Refused refusal)) rs segments (refused (lines.Next 0) refusal) reads (record {
         gave = λ files. tt;
-    follow = read_follow segments (refused (lines.Next 0) refusal) reads.0 refl;
+        follow = read_follow segments (refused (lines.Next 0) refusal) reads.0 refl;
         found = λ files m n comes x may. stays_after (Restore name) given refusal m.now x (comes.found x may);
         ended = λ files. inl (refused (lines.Next 0) refusal, read_last segments (refused (lines.Next 0) refusal) reads.0 files, refl);
         wrote = λ files m n comes. subst (Appended sink.written sink_now.written)

@@ -4,7 +4,8 @@ use Rattle.actor_parts.specs.declared.step.Answer.TheVariants as answers
 use Rattle.actor_parts.specs.StepValue as asked
 use Rattle.dd_disk.specs.Ending.{Ending}
 use Rattle.dd_disk.specs.Ending.{Done as Finished}
-use Rattle.gc_steps.specs.Stepping.{TablesAfter}
+use Rattle.gc_steps.specs.Stepping.{TablesAfter, answer_at}
+use Rattle.gc_steps.specs.declared.phase.StepDone.TheVariants.{Did}
 use Rattle.gc_sweep.specs.declared.sweep.Next.{Next}
 use Rattle.gc_sweep.specs.declared.sweep.Next.TheVariants.{Copy}
 use Rattle.gc_sweep.specs.declared.sweep.Sweep.{Sweep}
@@ -30,14 +31,14 @@ use Rattle.backup_engine.proofs.SweptBytes.{IsFramed, filled_with, freed_with, s
 use Rattle.backup_engine.proofs.SweptSlots.{SweptSlots, copied-append, freed-append, slots_filled, slots_freed, written-append}
 
 -- a step that did something was not at the end
-no_end : (stage : Stage) (next : Next) (freed copied : ℕ) (phase : Phase) → answer_at stage next freed copied ≡ Did phase → phase_at stage next ≡ phase_at Sweep End → ⊥
+no_end : (stage : Stage) (next : Next) (freed copied : ℕ) (phase : Phase) → answer_at stage next freed copied ≡ Did phase → phase_at stage next ≡ phase_at SweepStage End → ⊥
 no_end (Mark level slot) next freed copied phase is ends = cc
 no_end (Filter slot) next freed copied phase is ends = cc
 no_end Select next freed copied phase is ends = cc
-no_end Sweep (Copy source entry) freed copied phase is ends = cc
-no_end Sweep (Flush source entry) freed copied phase is ends = cc
-no_end Sweep (Release source entry) freed copied phase is ends = cc
-no_end Sweep End freed copied phase is ends = let wrong = is in cc
+no_end SweepStage (Copy source entry) freed copied phase is ends = cc
+no_end SweepStage (Flush source entry) freed copied phase is ends = cc
+no_end SweepStage (Release source entry) freed copied phase is ends = cc
+no_end SweepStage End freed copied phase is ends = let wrong = is in cc
 
 -- ---- counts
 

@@ -33,9 +33,8 @@ pub fn a_command_answers_by_the_map<D: Disk>()
 /// the empty map.
 ///
 /// Over a disk that tells its content and stands for a map, content and images after a list of calls are those of maps that the list may
-/// lead to; each call that opens the store is a run of the machine from the one that it finds, each command answers by that, and a crash
-/// meanwhile leaves a map of the calls before it, or one to which it may have come: so each that was done before is there. The function
-/// does nothing.
+/// lead to; each command answers by the one that it finds, each script is a run of the machine from it, and a crash meanwhile leaves a map
+/// of the calls before it, or one to which it may have come: so each that was done before is there. The function does nothing.
 pub fn commands_follow_the_map<D: Disk>()
     ensures promised { IsPromised D D.view }
     ensures begins { StandsEmpty D D.view }

@@ -1,19 +1,8 @@
 //! Bytes of an image: put over others, and the digests of cells and headers.
 ghost use Rattle.std.specs.Prelude.{◌≡◌, length};
 
-use crate::words::Fault;
 use sha2::{Digest, Sha256};
-
-/// Puts bytes over others.
-pub(crate) fn change(bytes: &mut [u8], at: u64, from: &[u8]) -> Result<(), Fault> {
-    let count = bytes.len() as u64;
-    if at > count || from.len() as u64 > count - at {
-        return Err(Fault::Place);
-    }
-    let place = at as usize;
-    bytes[place..place + from.len()].copy_from_slice(from);
-    Ok(())
-}
+use transcripts::Fault;
 
 /// Gives the cell, or the container header, at a place of the disk the digest of its fields.
 pub(crate) fn seal(bytes: &mut [u8], at: u64) -> Result<(), Fault> {

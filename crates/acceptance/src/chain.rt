@@ -1,12 +1,11 @@
 //! Commands, and calls of the disk, one after another on one disk.
-use crate::containers::header_text;
+use crate::headers::header_text;
 use crate::scripts::{add_replied, add_replies, script_in, script_of};
-use crate::text::Text;
-use crate::words::{Fault, add_piece, bytes_of, number, word_of, words_of};
 use backup_engine::{backup, backup_alone};
 use dd_disk::Disk;
 use dd_io::{MemSink, MemSource};
 use std::alloc::Global;
+use transcripts::{Fault, Text, add_piece, bytes_of, number, word_of, words_of};
 
 /// What came of a chain: the answers of its items, parted as they are.
 pub(crate) fn answers_of<D: Disk + Send>(

@@ -1,7 +1,6 @@
 //! Scripts as transcripts spell them, and the replies to them.
-use crate::text::Text;
-use crate::words::{Fault, number};
 use std::alloc::Global;
+use transcripts::{Fault, Text, number};
 
 /// A reply of more bytes is shown by their number and digest.
 const MOST_REPLY: usize = 200;

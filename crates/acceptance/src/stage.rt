@@ -1,25 +1,16 @@
 //! The disk that a transcript works on.
-use crate::cells::{change, seal};
+use crate::cells::seal;
 use crate::chain::answers_of;
-use crate::text::Text;
+use crate::sizes::size;
 use crate::turned::TurnedDisk;
-use crate::words::{Fault, add_piece, bytes_of, number, numbers_of, words_of};
 use dd_disk::{Asked, BlindDisk, FileDisk, Fill, MemDisk};
 use std::alloc::Global;
 use std::fs::File;
 use std::io;
-
-/// What stands after a stop where a write was not synced, and how a transcript calls it: what was there, what was written,
-/// and the gates of each kind of cell.
-const FILLS: [(&str, Fill); 7] = [
-    ("old", Fill::Old),
-    ("new", Fill::New),
-    ("00", Fill::Byte(0)),
-    ("a5", Fill::Byte(0xA5)),
-    ("b5", Fill::Byte(0xB5)),
-    ("c5", Fill::Byte(0xC5)),
-    ("d5", Fill::Byte(0xD5)),
-];
+use transcripts::{
+    FILLS, Fault, Stage, Text, add_piece, by_fill, bytes_of, change, fill_of, number, numbers_of,
+    words_of,
+};
 
 /// An image that was saved under a name.
 #[derive(Drop)]
@@ -30,7 +21,7 @@ struct Saved {
 
 /// The disk, and the images that were saved.
 #[derive(Drop)]
-pub(crate) struct Stage {
+pub(crate) struct Disks {
     disk: MemDisk,
     saved: Vec<Saved>,
 }
@@ -40,16 +31,8 @@ fn disk_of(alloc: Global, bytes: Vec<u8>) -> MemDisk {
     MemDisk::new(bytes, Vec::new(alloc))
 }
 
-impl Stage {
-    pub(crate) fn new(alloc: Global) -> Stage {
-        Stage {
-            disk: disk_of(alloc, Vec::new(alloc)),
-            saved: Vec::new(alloc),
-        }
-    }
-
-    /// Does what a line without an answer says.
-    pub(crate) fn prepare(&mut self, alloc: Global, line: &str) -> Result<(), Fault> {
+impl Stage for Disks {
+    fn prepare(&mut self, alloc: Global, line: &str) -> Result<(), Fault> {
         let words = words_of(alloc, line)?;
         match words.as_slice() {
             ["zeros", size] => self.show(zeros(alloc, number(size)?)?),
@@ -63,6 +46,30 @@ impl Stage {
             _ => return Err(Fault::Line),
         }
         Ok(())
+    }
+
+    // A call of the disk, a chain over a disk, or the size of a format.
+    fn answer(&mut self, rt: &HostRuntime, row: &str) -> Result<String, Fault> {
+        let alloc = rt.alloc();
+        if let Some(call) = row.strip_prefix("call ") {
+            return self.call_text(alloc, number(call)?);
+        }
+        if let Some((over, chain)) = row.split_once('$') {
+            return self.chain_over(rt, over, chain);
+        }
+        match row.strip_prefix("size ") {
+            Some(words) => size(alloc, &words_of(alloc, words)?),
+            None => Err(Fault::Line),
+        }
+    }
+}
+
+impl Disks {
+    pub(crate) fn new(alloc: Global) -> Disks {
+        Disks {
+            disk: disk_of(alloc, Vec::new(alloc)),
+            saved: Vec::new(alloc),
+        }
     }
 
     // From here on the disk has these bytes, and its calls are counted anew.
@@ -122,13 +129,8 @@ impl Stage {
         found.ok_or(Fault::Place)
     }
 
-    /// What a chain answers over the disk, or over another that is made of it for this chain alone.
-    pub(crate) fn answer(
-        &mut self,
-        rt: &HostRuntime,
-        over: &str,
-        chain: &str,
-    ) -> Result<String, Fault> {
+    // What a chain answers over the disk, or over another that is made of it for this chain alone.
+    fn chain_over(&mut self, rt: &HostRuntime, over: &str, chain: &str) -> Result<String, Fault> {
         let alloc = rt.alloc();
         let words = words_of(alloc, over)?;
         match words.as_slice() {
@@ -211,11 +213,11 @@ impl Stage {
             let image = self.image_after(alloc, call, fill)?;
             answers.push(answers_of(rt, &mut disk_of(alloc, image), chain)?)?;
         }
-        Ok(by_fill(alloc, &answers).whole()?)
+        by_fill(alloc, &answers)
     }
 
-    /// What was asked of the disk in a call.
-    pub(crate) fn call_text(&self, alloc: Global, number: u64) -> Result<String, Fault> {
+    // What was asked of the disk in a call.
+    fn call_text(&self, alloc: Global, number: u64) -> Result<String, Fault> {
         let mut text = Text::new(alloc);
         for call in self.disk.calls() {
             if call.number == number {
@@ -240,16 +242,6 @@ fn edit_of(alloc: Global, edit: &str) -> Result<(u64, Vec<u8>), Fault> {
     Ok((number(offset)?, bytes))
 }
 
-// The fill of a name.
-fn fill_of(name: &str) -> Result<Fill, Fault> {
-    for (known, fill) in FILLS {
-        if known == name {
-            return Ok(fill);
-        }
-    }
-    Err(Fault::Line)
-}
-
 // `PLACE=BYTE` each: what reads give there.
 fn lies_of(alloc: Global, words: &[&str]) -> Result<Vec<(u64, u8)>, Fault> {
     let mut lies = Vec::new(alloc);
@@ -260,45 +252,6 @@ fn lies_of(alloc: Global, words: &[&str]) -> Result<Vec<(u64, u8)>, Fault> {
         }
     }
     Ok(lies)
-}
-
-// The answers, each once, after the names of the fills that have it.
-fn by_fill(alloc: Global, answers: &[String]) -> Text {
-    let mut text = Text::new(alloc);
-    for (i, answer) in answers.iter().enumerate() {
-        if first_of(answers, answer.as_str()) == i {
-            text.part_by(" | ");
-            add_fills(&mut text, answers, answer.as_str());
-            text.add(answer.as_str());
-        }
-    }
-    text
-}
-
-// Where an answer stands first.
-fn first_of(answers: &[String], answer: &str) -> usize {
-    for (i, other) in answers.iter().enumerate() {
-        if other.as_str() == answer {
-            return i;
-        }
-    }
-    answers.len()
-}
-
-// The names of the fills that have an answer, or `each`.
-fn add_fills(text: &mut Text, answers: &[String], answer: &str) {
-    let mut names = Text::new(text.alloc());
-    let mut is_each = true;
-    for ((name, _fill), other) in FILLS.iter().zip(answers) {
-        if other.as_str() == answer {
-            names.part_by(" ");
-            names.add(name);
-        } else {
-            is_each = false;
-        }
-    }
-    text.add(if is_each { "each" } else { names.as_str() });
-    text.add(": ");
 }
 
 fn add_asked(text: &mut Text, asked: &Asked) {

@@ -4,10 +4,10 @@ ghost use Rattle.container_meta.specs.declared.kind.Kind;
 ghost use Rattle.container_meta.specs.Segments.{has_key, segment_key};
 ghost use Rattle.actor_parts.specs.Segments.{IsStepSegment, AreStepSegments};
 
-use crate::words::Fault;
 use container_meta::{Fit, Kind, OpenContainer, Seg};
 use std::alloc::{AllocError, Global};
 use std::marker::Model;
+use transcripts::Fault;
 
 /// A container whose segments may each stand in a step.
 #[derive(Drop)]

@@ -35,32 +35,19 @@ mod pieces;
 mod running;
 mod stage;
 mod steps;
-mod transcript;
 mod words;
 
+use stage::Stores;
+use std::io;
 use std::process::ExitCode;
-use std::{fs, io};
-use transcript::Suite;
-
-// Runs the transcripts that standard input names.
-fn run_all(rt: &HostRuntime, suite: &mut Suite) -> io::Result<()> {
-    for name in rt.lines(rt.alloc()) {
-        let name = name?;
-        let text = fs::read_to_string(rt, name.as_str())?;
-        println!(rt; "\n# {name}")?;
-        suite.run(rt, text.as_str())?;
-    }
-    println!(rt; "\n{} rows, {} failed", suite.rows, suite.failed)
-}
+use transcripts::Suite;
 
 // How many rows failed. The suite is let go at one place: its proof costs most there.
 fn failures(rt: &HostRuntime) -> io::Result<u64> {
-    let mut suite = Suite::new(rt.alloc());
-    let ended = run_all(rt, &mut suite);
-    let failed = suite.failed;
+    let mut suite = Suite::new(rt.alloc(), Stores::new(rt.alloc()));
+    let failed = suite.run_all(rt);
     drop(suite);
-    ended?;
-    Ok(failed)
+    failed
 }
 
 fn main(rt: HostRuntime) -> io::Result<ExitCode> {

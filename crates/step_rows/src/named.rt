@@ -3,12 +3,12 @@ ghost use Rattle.std.specs.Prelude.{IfOk};
 ghost use Rattle.actor_parts.specs.Segments.{IsStepSegment};
 
 use crate::pieces::bytes_of;
-use crate::words::{Fault, byte_of, decoded, number};
 use actor_parts::node_seg;
 use container_meta::{Seg, digest_of};
 use merkle_file::Node;
 use namespace::Root;
 use std::alloc::{AllocError, Global};
+use transcripts::{Fault, byte_of, decoded, number};
 
 /// A root, and the bytes of its segment, of which there are none where only the root is told.
 #[derive(Drop)]
@@ -63,7 +63,7 @@ fn root(
 }
 
 fn digest_in(alloc: Global, digits: &str) -> Result<[u8; 32], Fault> {
-    let bytes = decoded(alloc, digits)?;
+    let bytes = decoded(alloc, digits.as_bytes())?;
     let mut digest = [0u8; 32];
     if bytes.len() != 32 {
         return Err(Fault::Line);

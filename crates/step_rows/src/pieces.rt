@@ -1,7 +1,7 @@
 //! Bytes, as words spell them.
 use crate::named::{Named, find};
-use crate::words::{Fault, decoded, number};
 use std::alloc::Global;
+use transcripts::{Fault, decoded, number};
 
 /// The bytes that some words spell, one piece after another.
 pub(crate) fn bytes_of(alloc: Global, names: &[Named], words: &[&str]) -> Result<Vec<u8>, Fault> {
@@ -40,6 +40,6 @@ fn once(alloc: Global, names: &[Named], piece: &str) -> Result<Vec<u8>, Fault> {
                 .as_bytes()
                 .to_vec(alloc)?,
         ),
-        None => decoded(alloc, piece),
+        None => decoded(alloc, piece.as_bytes()),
     }
 }

@@ -4,24 +4,12 @@ use crate::named::{Named, named_by};
 use crate::pieces::{bytes_of, piece_of};
 use crate::running::{Running, open};
 use crate::steps;
-use crate::words::{Fault, number, words_of};
-use dd_disk::{BlindDisk, Disk, Fill, MemDisk};
+use dd_disk::{BlindDisk, Disk, MemDisk};
 use disk_format::{is_slot_count, size_of};
 use std::alloc::Global;
 use store_core::Core;
 use summary_vector::NoSummary;
-
-/// What stands after a stop where a write was not synced, and how a row calls it: what was there, what was written, and the
-/// gates of each kind of cell.
-const FILLS: [(&str, Fill); 7] = [
-    ("old", Fill::Old),
-    ("new", Fill::New),
-    ("00", Fill::Byte(0)),
-    ("a5", Fill::Byte(0xA5)),
-    ("b5", Fill::Byte(0xB5)),
-    ("c5", Fill::Byte(0xC5)),
-    ("d5", Fill::Byte(0xD5)),
-];
+use transcripts::{FILLS, Fault, Stage, by_fill, change, number, words_of};
 
 /// A store: its disk alone, or a core that is open over it.
 #[derive(Drop)]
@@ -33,7 +21,7 @@ enum Store {
 
 /// The store, and what names stand for.
 #[derive(Drop)]
-pub(crate) struct Stage {
+pub(crate) struct Stores {
     store: Store,
     names: Vec<Named>,
     // What the disk held at the opening, the steps since then, and which calls were to fail.
@@ -47,17 +35,6 @@ pub(crate) struct Stage {
 /// A disk of these bytes, none of whose calls fails.
 fn disk_of(alloc: Global, bytes: Vec<u8>) -> MemDisk {
     MemDisk::new(bytes, Vec::new(alloc))
-}
-
-// Puts bytes over others.
-fn change(bytes: &mut [u8], place: u64, from: &[u8]) -> Result<(), Fault> {
-    let count = bytes.len() as u64;
-    if place > count || from.len() as u64 > count - place {
-        return Err(Fault::Place);
-    }
-    let place = place as usize;
-    bytes[place..place + from.len()].copy_from_slice(from);
-    Ok(())
 }
 
 impl Store {
@@ -87,20 +64,8 @@ impl Store {
     }
 }
 
-impl Stage {
-    pub(crate) fn new(alloc: Global) -> Stage {
-        Stage {
-            store: Store::Closed(disk_of(alloc, Vec::new(alloc))),
-            names: Vec::new(alloc),
-            start: Vec::new(alloc),
-            steps: Vec::new(alloc),
-            fails: Vec::new(alloc),
-            mark: 0,
-        }
-    }
-
-    /// Does what a line without an answer says.
-    pub(crate) fn prepare(&mut self, alloc: Global, line: &str) -> Result<(), Fault> {
+impl Stage for Stores {
+    fn prepare(&mut self, alloc: Global, line: &str) -> Result<(), Fault> {
         let words = words_of(alloc, line)?;
         match words.as_slice() {
             ["disk", slots] => self.format(alloc, slots),
@@ -108,6 +73,27 @@ impl Stage {
             ["mark"] => self.mark_calls(),
             ["fail", call] => self.fail(alloc, call),
             words => self.add_name(alloc, words),
+        }
+    }
+
+    // What the steps of a row answer.
+    fn answer(&mut self, rt: &HostRuntime, row: &str) -> Result<String, Fault> {
+        match row.strip_prefix("crash ") {
+            Some(words) => self.after_stops(rt.alloc(), words),
+            None => self.chain(rt.alloc(), row),
+        }
+    }
+}
+
+impl Stores {
+    pub(crate) fn new(alloc: Global) -> Stores {
+        Stores {
+            store: Store::Closed(disk_of(alloc, Vec::new(alloc))),
+            names: Vec::new(alloc),
+            start: Vec::new(alloc),
+            steps: Vec::new(alloc),
+            fails: Vec::new(alloc),
+            mark: 0,
         }
     }
 
@@ -211,14 +197,6 @@ impl Stage {
     fn step(&mut self, alloc: Global, step: &str) -> Result<String, Fault> {
         self.steps.push(step.to_string(alloc)?)?;
         self.store.answer(alloc, &self.names, step)
-    }
-
-    /// What the steps of a row answer.
-    pub(crate) fn answer(&mut self, alloc: Global, row: &str) -> Result<String, Fault> {
-        match row.strip_prefix("crash ") {
-            Some(words) => self.after_stops(alloc, words),
-            None => self.chain(alloc, row),
-        }
     }
 
     fn chain(&mut self, alloc: Global, row: &str) -> Result<String, Fault> {
@@ -348,45 +326,4 @@ fn add_part(text: &mut String, mark: &str, part: &str) -> Result<(), Fault> {
         text.push_str(mark)?;
     }
     Ok(text.push_str(part)?)
-}
-
-// The answers, each once, after the names of the fills that have it.
-fn by_fill(alloc: Global, answers: &[String]) -> Result<String, Fault> {
-    let mut text = String::new(alloc);
-    for (i, answer) in answers.iter().enumerate() {
-        if first_of(answers, answer.as_str()) == i {
-            let fills = fills_of(alloc, answers, answer.as_str())?;
-            add_part(&mut text, " | ", fills.as_str())?;
-            text.push_str(": ")?;
-            text.push_str(answer.as_str())?;
-        }
-    }
-    Ok(text)
-}
-
-// Where an answer stands first.
-fn first_of(answers: &[String], answer: &str) -> usize {
-    for (i, other) in answers.iter().enumerate() {
-        if other.as_str() == answer {
-            return i;
-        }
-    }
-    answers.len()
-}
-
-// The names of the fills that have an answer, or `each`.
-fn fills_of(alloc: Global, answers: &[String], answer: &str) -> Result<String, Fault> {
-    let mut names = String::new(alloc);
-    let mut is_each = true;
-    for ((name, _fill), other) in FILLS.iter().zip(answers) {
-        if other.as_str() == answer {
-            add_part(&mut names, " ", name)?;
-        } else {
-            is_each = false;
-        }
-    }
-    if is_each {
-        return Ok("each".to_string(alloc)?);
-    }
-    Ok(names)
 }

@@ -3,12 +3,13 @@ use crate::filled::Filled;
 use crate::named::{Named, find, segment};
 use crate::pieces::piece_of;
 use crate::running::Running;
-use crate::words::{Fault, actor_of, words_of};
+use crate::words::actor_of;
 use actor_parts::{Actor, Percent, Step};
 use dd_disk::Disk;
 use std::alloc::Global;
 use store_core::Core;
 use summary_vector::NoSummary;
+use transcripts::{Fault, words_of};
 
 /// Makes a step, and gives the text of its answer.
 pub(crate) fn answer<D: Disk>(

@@ -5,30 +5,32 @@ use std::fmt::Write;
 
 /// Text that is added to. What there is no memory for is left out, and `whole` says so.
 #[derive(Drop)]
-pub(crate) struct Text {
+pub struct Text {
     text: String,
     whole: bool,
 }
 
 impl Text {
-    pub(crate) fn new(alloc: Global) -> Text {
+    /// No text.
+    pub fn new(alloc: Global) -> Text {
         Text {
             text: String::new(alloc),
             whole: true,
         }
     }
 
-    pub(crate) fn alloc(&self) -> Global {
+    /// What its memory is taken from.
+    pub fn alloc(&self) -> Global {
         *self.text.allocator()
     }
 
     /// What is there of the text.
-    pub(crate) fn as_str(&self) -> &str {
+    pub fn as_str(&self) -> &str {
         self.text.as_str()
     }
 
     /// The text, if all of it is there.
-    pub(crate) fn whole(self) -> Result<String, AllocError> {
+    pub fn whole(self) -> Result<String, AllocError> {
         if self.whole {
             Ok(self.text)
         } else {
@@ -36,26 +38,29 @@ impl Text {
         }
     }
 
-    pub(crate) fn add(&mut self, part: &str) {
+    /// Adds text.
+    pub fn add(&mut self, part: &str) {
         if self.text.push_str(part).is_err() {
             self.whole = false;
         }
     }
 
     /// Begins a part after the parts that are there.
-    pub(crate) fn part_by(&mut self, mark: &str) {
+    pub fn part_by(&mut self, mark: &str) {
         if !self.text.is_empty() {
             self.add(mark);
         }
     }
 
-    pub(crate) fn add_number(&mut self, number: u64) {
+    /// Adds a number, in decimal digits.
+    pub fn add_number(&mut self, number: u64) {
         if write!(self.text, "{number}").is_err() {
             self.whole = false;
         }
     }
 
-    pub(crate) fn add_hex(&mut self, bytes: &[u8]) {
+    /// Adds the hex digits of bytes.
+    pub fn add_hex(&mut self, bytes: &[u8]) {
         match hex::encode(self.alloc(), bytes) {
             Ok(digits) => self.add(digits.as_str()),
             Err(_) => self.whole = false,
@@ -63,7 +68,7 @@ impl Text {
     }
 
     /// Bytes: as text in quotes or as hex, and where they are more than 64, their number and digest.
-    pub(crate) fn add_bytes(&mut self, bytes: &[u8]) {
+    pub fn add_bytes(&mut self, bytes: &[u8]) {
         if bytes.len() > 64 {
             self.add_number(bytes.len() as u64);
             self.add(" bytes ");
@@ -80,7 +85,7 @@ impl Text {
     }
 
     /// A line, without the LF at its end; other bytes as `add_bytes` has them.
-    pub(crate) fn add_line(&mut self, bytes: &[u8]) {
+    pub fn add_line(&mut self, bytes: &[u8]) {
         if let [line @ .., b'\n'] = bytes {
             if let Some(text) = plain_text(line) {
                 return self.add(text);

@@ -1,9 +1,7 @@
-//! Calls of `dd_io`, and the size of a format.
-use crate::text::Text;
-use crate::words::{Fault, bytes_of, numbers_of, word_of, words_of};
-use backup_engine::size_of_format;
+//! Calls of `dd_io`.
 use dd_io::{MemSink, MemSource, Sink, Source};
 use std::alloc::Global;
+use transcripts::{Fault, Text, bytes_of, numbers_of, words_of};
 
 /// `BYTES reads COUNT .. fails CALL ..`: what reads of these sizes give, of which some calls fail.
 pub(crate) fn source(alloc: Global, row: &str) -> Result<String, Fault> {
@@ -51,19 +49,5 @@ pub(crate) fn sink(alloc: Global, row: &str) -> Result<String, Fault> {
     text.add(" failed ");
     text.add_number(sink.missed());
     text.add(" missed");
-    Ok(text.whole()?)
-}
-
-/// The size of the disk that some words format.
-pub(crate) fn size(alloc: Global, words: &[&str]) -> Result<String, Fault> {
-    let mut owned = Vec::new(alloc);
-    for word in words {
-        owned.push(word_of(alloc, word)?)?;
-    }
-    let mut text = Text::new(alloc);
-    match size_of_format(alloc, &owned)? {
-        Some(size) => text.add_number(size),
-        None => text.add("none"),
-    }
     Ok(text.whole()?)
 }

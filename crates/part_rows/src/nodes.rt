@@ -1,9 +1,8 @@
 //! Calls of `merkle_file`.
-use crate::text::Text;
-use crate::words::{Fault, add_piece, byte_of, bytes_of, number};
 use merkle_file::{Child, Cursor, FieldFault, Node, NodeFault, Top, TreeBuilder, Want};
 use sha2::{Digest, Sha256};
 use std::alloc::{AllocError, Global};
+use transcripts::{Fault, Text, add_piece, byte_of, bytes_of, number};
 
 /// The node that bytes spell, and whether it is spelled so again.
 pub(crate) fn node(alloc: Global, words: &[&str]) -> Result<String, Fault> {

@@ -3,7 +3,7 @@ use std::alloc::{AllocError, AllocFailed, Global};
 
 /// Why a line cannot be followed.
 #[derive(Clone, Copy)]
-pub(crate) enum Fault {
+pub enum Fault {
     Memory,
     /// The line has another form than the lines of a transcript.
     Line,
@@ -11,18 +11,25 @@ pub(crate) enum Fault {
     Place,
     /// A file that it needs could not be made.
     File,
-    /// The name stands for a text already.
+    /// It has a name that stands for nothing, or for another sort of thing.
     Name,
+    /// The name stands for a text already.
+    Taken,
+    /// The store is open, and the line needs it closed, or the other way round.
+    Store,
 }
 
 impl Fault {
-    pub(crate) fn text(self) -> &'static str {
+    /// What is reported where an answer was to be.
+    pub fn text(self) -> &'static str {
         match self {
             Fault::Memory => "no memory for this line",
             Fault::Line => "no such line",
             Fault::Place => "no such place",
             Fault::File => "no such file",
-            Fault::Name => "this name stands already",
+            Fault::Name => "no such name",
+            Fault::Taken => "this name stands already",
+            Fault::Store => "no such store",
         }
     }
 }
@@ -39,7 +46,8 @@ impl<T: Drop> From<AllocFailed<T>> for Fault {
     }
 }
 
-pub(crate) fn number(word: &str) -> Result<u64, Fault> {
+/// A number in decimal digits.
+pub fn number(word: &str) -> Result<u64, Fault> {
     match word.parse::<u64>() {
         Ok(number) => Ok(number),
         Err(_) => Err(Fault::Line),
@@ -47,14 +55,15 @@ pub(crate) fn number(word: &str) -> Result<u64, Fault> {
 }
 
 /// A number of one byte.
-pub(crate) fn byte_of(word: &str) -> Result<u8, Fault> {
+pub fn byte_of(word: &str) -> Result<u8, Fault> {
     match word.parse::<u8>() {
         Ok(number) => Ok(number),
         Err(_) => Err(Fault::Line),
     }
 }
 
-pub(crate) fn numbers_of(alloc: Global, words: &[&str]) -> Result<Vec<u64>, Fault> {
+/// The numbers that some words are.
+pub fn numbers_of(alloc: Global, words: &[&str]) -> Result<Vec<u64>, Fault> {
     let mut numbers = Vec::new(alloc);
     for word in words {
         numbers.push(number(word)?)?;
@@ -63,7 +72,7 @@ pub(crate) fn numbers_of(alloc: Global, words: &[&str]) -> Result<Vec<u64>, Faul
 }
 
 /// The words of a line, which spaces part.
-pub(crate) fn words_of(alloc: Global, line: &str) -> Result<Vec<&str>, AllocError> {
+pub fn words_of(alloc: Global, line: &str) -> Result<Vec<&str>, AllocError> {
     let mut words = Vec::new(alloc);
     for word in line.split(' ') {
         if !word.is_empty() {
@@ -74,7 +83,7 @@ pub(crate) fn words_of(alloc: Global, line: &str) -> Result<Vec<&str>, AllocErro
 }
 
 /// The bytes that some words spell, one piece after another.
-pub(crate) fn bytes_of(alloc: Global, words: &[&str]) -> Result<Vec<u8>, Fault> {
+pub fn bytes_of(alloc: Global, words: &[&str]) -> Result<Vec<u8>, Fault> {
     let mut bytes = Vec::new(alloc);
     for word in words {
         add_piece(alloc, word, &mut bytes)?;
@@ -84,7 +93,7 @@ pub(crate) fn bytes_of(alloc: Global, words: &[&str]) -> Result<Vec<u8>, Fault> 
 
 /// Adds a piece of bytes: hex digits, or text in quotes, or `noise`; with `*COUNT` after it so many times, or of noise
 /// so many bytes.
-pub(crate) fn add_piece(alloc: Global, word: &str, bytes: &mut Vec<u8>) -> Result<(), Fault> {
+pub fn add_piece(alloc: Global, word: &str, bytes: &mut Vec<u8>) -> Result<(), Fault> {
     let (piece, count) = match word.split_once('*') {
         Some((piece, count)) => (piece, number(count)?),
         None => (word, 1),
@@ -106,7 +115,8 @@ fn piece_of(alloc: Global, piece: &str) -> Result<Vec<u8>, Fault> {
     }
 }
 
-fn decoded(alloc: Global, digits: &[u8]) -> Result<Vec<u8>, Fault> {
+/// The bytes of hex digits.
+pub fn decoded(alloc: Global, digits: &[u8]) -> Result<Vec<u8>, Fault> {
     match hex::decode(alloc, digits) {
         Ok(bytes) => Ok(bytes),
         Err(_) => Err(Fault::Line),
@@ -114,7 +124,7 @@ fn decoded(alloc: Global, digits: &[u8]) -> Result<Vec<u8>, Fault> {
 }
 
 /// A word of a command: as it stands, or as text in quotes.
-pub(crate) fn word_of(alloc: Global, word: &str) -> Result<String, Fault> {
+pub fn word_of(alloc: Global, word: &str) -> Result<String, Fault> {
     let bytes = match word.strip_prefix('"') {
         Some(text) => unescaped(alloc, text.strip_suffix('"').ok_or(Fault::Line)?)?,
         None => word.as_bytes().to_vec(alloc)?,
@@ -155,5 +165,16 @@ fn add_noise(bytes: &mut Vec<u8>, count: u64) -> Result<(), AllocError> {
             .wrapping_add(1_442_695_040_888_963_407);
         bytes.push((state >> 56) as u8)?;
     }
+    Ok(())
+}
+
+/// Puts bytes over others.
+pub fn change(bytes: &mut [u8], at: u64, from: &[u8]) -> Result<(), Fault> {
+    let count = bytes.len() as u64;
+    if at > count || from.len() as u64 > count - at {
+        return Err(Fault::Place);
+    }
+    let place = at as usize;
+    bytes[place..place + from.len()].copy_from_slice(from);
     Ok(())
 }

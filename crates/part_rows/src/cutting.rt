@@ -1,8 +1,7 @@
 //! Calls of `segmenter`.
-use crate::text::Text;
-use crate::words::{Fault, bytes_of, number, words_of};
 use segmenter::{Cutter, cut_pieces, segments_plainly};
 use std::alloc::{AllocError, Global};
+use transcripts::{Fault, Text, bytes_of, number, words_of};
 
 /// `SIZE BYTES`: the lengths of the segments of a stream that comes in pieces of this size, or `uneven`, or `plainly` by
 /// looking at each window anew.

@@ -1,9 +1,16 @@
 //! Transcripts: their lines, and what is reported of them.
-use crate::codecs::codec_answer;
-use crate::stage::Stage;
 use crate::words::{Fault, number};
 use std::alloc::{AllocError, Global};
-use std::io;
+use std::{fs, io};
+
+/// What the lines of transcripts work on.
+pub trait Stage {
+    /// Does what a line without an answer says.
+    fn prepare(&mut self, alloc: Global, line: &str) -> Result<(), Fault>;
+
+    /// What a row answers, of what stands before its ` => `.
+    fn answer(&mut self, rt: &HostRuntime, row: &str) -> Result<String, Fault>;
+}
 
 /// A text, and the mark `{NAME}` that stands for it.
 #[derive(Drop)]
@@ -12,28 +19,40 @@ struct Name {
     text: String,
 }
 
-/// What transcripts work on, one after another: a stage, and the names that stand for texts. It counts the rows that were
-/// run, and what failed.
+/// Transcripts that are run one after another, on one stage. It counts the rows that were run, and what failed.
 #[derive(Drop)]
-pub(crate) struct Suite {
-    stage: Stage,
+pub struct Suite<S> {
+    stage: S,
     names: Vec<Name>,
-    pub(crate) rows: u64,
-    pub(crate) failed: u64,
+    rows: u64,
+    failed: u64,
 }
 
-impl Suite {
-    pub(crate) fn new(alloc: Global) -> Suite {
+impl<S: Stage> Suite<S> {
+    /// No rows were run on the stage yet.
+    pub fn new(alloc: Global, stage: S) -> Suite<S> {
         Suite {
-            stage: Stage::new(alloc),
+            stage,
             names: Vec::new(alloc),
             rows: 0,
             failed: 0,
         }
     }
 
-    /// Goes through a transcript. A line that begins with a space goes on with the one before it.
-    pub(crate) fn run(&mut self, rt: &HostRuntime, text: &str) -> io::Result<()> {
+    /// Runs the transcripts whose names standard input has, one a line, reports each row, and says how many failed.
+    pub fn run_all(&mut self, rt: &HostRuntime) -> io::Result<u64> {
+        for name in rt.lines(rt.alloc()) {
+            let name = name?;
+            let text = fs::read_to_string(rt, name.as_str())?;
+            println!(rt; "\n# {name}")?;
+            self.run(rt, text.as_str())?;
+        }
+        println!(rt; "\n{} rows, {} failed", self.rows, self.failed)?;
+        Ok(self.failed)
+    }
+
+    // Goes through a transcript. A line that begins with a space goes on with the one before it.
+    fn run(&mut self, rt: &HostRuntime, text: &str) -> io::Result<()> {
         let mut line = String::new(rt.alloc());
         for next in text.lines() {
             if next.starts_with(' ') {
@@ -93,7 +112,7 @@ impl Suite {
         let (piece, count) = times_of(value);
         let mark = format!(in alloc; "{{{name}}}")?;
         if stands(&self.names, mark.as_str()) {
-            return Err(Fault::Name);
+            return Err(Fault::Taken);
         }
         let mut text = String::new(alloc);
         for _ in 0..count {
@@ -136,9 +155,9 @@ impl Suite {
 
     // Runs a row. One of stops is a row for each of the seven fills.
     fn run_row(&mut self, rt: &HostRuntime, row: &str, wanted: &str) -> io::Result<()> {
-        let count = if row.starts_with("crash") { 7 } else { 1 };
+        let count = if row.starts_with("crash ") { 7 } else { 1 };
         self.rows = self.rows.saturating_add(count);
-        let found = match self.answer(rt, row) {
+        let found = match self.stage.answer(rt, row) {
             Ok(found) => found,
             Err(fault) => fault.text().to_string(rt.alloc())?,
         };
@@ -147,16 +166,6 @@ impl Suite {
             println!(rt; "FAILED {row}\n  wanted {wanted}\n  found  {found}")?;
         }
         Ok(())
-    }
-
-    fn answer(&mut self, rt: &HostRuntime, row: &str) -> Result<String, Fault> {
-        if let Some(call) = row.strip_prefix("call ") {
-            return self.stage.call_text(rt.alloc(), number(call)?);
-        }
-        match row.split_once('$') {
-            Some((over, chain)) => self.stage.answer(rt, over, chain),
-            None => codec_answer(rt.alloc(), row),
-        }
     }
 }
 

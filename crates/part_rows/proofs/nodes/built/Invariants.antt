@@ -1,7 +1,7 @@
 -- How many leaves were pushed, and of how many bytes at most.
 use Rattle.std.proofs.Common.{◌≡◌, ◌*◌, ◌≤◌}
 use Rattle.merkle_file.specs.Building.{total_of}
-use Rattle.acceptance.proofs.nodes.built.Given as goal
+use Rattle.part_rows.proofs.nodes.built.Given as goal
 
 abbrev pub invariant-loop-leaf : goal.invariant-loop-leaf
 invariant-loop-leaf l = record {

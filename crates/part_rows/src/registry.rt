@@ -1,8 +1,7 @@
 //! Calls of `namespace`.
-use crate::text::Text;
-use crate::words::{Fault, bytes_of, number, words_of};
 use namespace::{Change, NameFault, Names, Record, Root};
 use std::alloc::Global;
+use transcripts::{Fault, Text, bytes_of, number, words_of};
 
 /// Calls of names: records that are applied, `get NAME`, and `list`.
 pub(crate) fn names(alloc: Global, chain: &str) -> Result<String, Fault> {

@@ -1,8 +1,7 @@
 //! Calls of `segment_index`.
-use crate::text::Text;
-use crate::words::{Fault, byte_of, words_of};
 use segment_index::{Key, MapIndex, Place};
 use std::alloc::Global;
+use transcripts::{Fault, Text, byte_of, words_of};
 
 /// Calls of an index in memory. A key is `KIND BYTE`, 32 times that byte after its kind; a place is a slot.
 pub(crate) fn index(alloc: Global, chain: &str) -> Result<String, Fault> {

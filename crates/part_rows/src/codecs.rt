@@ -5,12 +5,26 @@ use crate::nodes::{node, tree, walk};
 use crate::places::index;
 use crate::registry::{names, replay};
 use crate::sessions::session;
-use crate::streams::{sink, size, source};
-use crate::words::{Fault, words_of};
+use crate::streams::{sink, source};
 use std::alloc::Global;
+use transcripts::{Fault, Stage, words_of};
 
-/// What a codec answers to the words after its name.
-pub(crate) fn codec_answer(alloc: Global, row: &str) -> Result<String, Fault> {
+/// Calls of parts, each of which begins with nothing.
+#[derive(Drop)]
+pub(crate) struct Codecs;
+
+impl Stage for Codecs {
+    fn prepare(&mut self, _alloc: Global, _line: &str) -> Result<(), Fault> {
+        Err(Fault::Line)
+    }
+
+    fn answer(&mut self, rt: &HostRuntime, row: &str) -> Result<String, Fault> {
+        codec_answer(rt.alloc(), row)
+    }
+}
+
+// What a codec answers to the words after its name.
+fn codec_answer(alloc: Global, row: &str) -> Result<String, Fault> {
     let (codec, rest) = row.split_once(' ').unwrap_or((row, ""));
     match codec {
         "cutter" => cutter(alloc, rest),
@@ -32,7 +46,6 @@ fn plain_answer(alloc: Global, codec: &str, words: &[&str]) -> Result<String, Fa
         "node" => node(alloc, words),
         "tree" => tree(alloc, words),
         "walk" => walk(alloc, words),
-        "size" => size(alloc, words),
         _ => Err(Fault::Line),
     }
 }

@@ -4,14 +4,13 @@ ghost use Rattle.ingest_session.specs.Due.{due_in};
 ghost use Rattle.ingest_session.specs.Told.{IsSettled, IsAnswerFor};
 
 use crate::nodes::add_top;
-use crate::text::Text;
-use crate::words::{Fault, bytes_of, number, words_of};
 use actor_parts::Answer;
 use container_meta::{Kind, Seg};
 use ingest_session::{Due, Session};
 use merkle_file::Top;
 use refusals::{PartKind, Refusal};
 use std::alloc::Global;
+use transcripts::{Fault, Text, bytes_of, number, words_of};
 
 /// What steps are answered, and what is told of them.
 #[derive(Drop)]

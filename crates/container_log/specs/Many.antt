@@ -22,7 +22,8 @@ HaveSegments filled = (i : ℕ) (contents : Contents) → slice_get filled i ≡
 
 -- What is asked of containers that are sealed together: slots of a disk of this size, one for each of them, with room for a digest;
 -- an id for each, from one on; and a buffer.
-pub record MaySealAll (size : ℕ) (slots : List ℕ) (id : ℕ) (filled : List Contents) (image : List ℕ) (digests : List (List ℕ)) : Type 0 where
+pub record MaySealAll (size : ℕ) (slots : List ℕ) (id : ℕ) (filled : List Contents) (image : List ℕ)
+    (digests : List (List ℕ)) : Type 0 where
   pub places : AreSlots size slots
   pub each : length filled ≡ length slots
   pub room : length digests ≡ length slots

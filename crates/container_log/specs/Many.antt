@@ -1,10 +1,11 @@
 -- Several containers that are sealed together, and several slots that are closed together: what the slots hold meanwhile, and after.
-use Rattle.std.specs.Prelude.{◌≡◌, ◌⊎◌, ℕ, suc, ◌+◌, ◌<◌, ◌≤◌, List, [], ◌∷◌, length, drop, get_or, slice_get, Some, None}
+use Rattle.std.specs.Prelude.{◌≡◌, ◌⊎◌, ℕ, suc, ◌+◌, ◌<◌, ◌≤◌, List, [], ◌∷◌, length, drop, get_or, slice_get, true, Some, None, Result, IfOk}
 use Rattle.base_model.specs.Bytes.{range, byte_at}
 use Rattle.disk_format.specs.declared.numbers.TheConstants.{SLOT_BYTES}
 use Rattle.disk_format.specs.Layout.{slot_at}
 use Rattle.dd_disk.specs.Wrote.{SameIn}
 use Rattle.container_meta.specs.declared.kind.Kind.{Kind}
+use Rattle.container_meta.specs.Format.{is_id}
 use Rattle.container_meta.specs.Segments.{Segment, Contents, StandFrom}
 use Rattle.container_meta.specs.Spelling.{HeaderValue, IsSpelled, container_spelling, header_digest, header_of}
 use Rattle.store_model.specs.Slots.{HoldsSlot, HoldsContainer}
@@ -18,6 +19,17 @@ pub record AreSlots (size : ℕ) (slots : List ℕ) : Type 0 where
 -- each of the containers has a segment
 abbrev pub HaveSegments : List Contents → Type 0
 HaveSegments filled = (i : ℕ) (contents : Contents) → slice_get filled i ≡ Some contents → 1 ≤ length contents.segments
+
+-- What is asked of containers that are sealed together: slots of a disk of this size, one for each of them, with room for a digest;
+-- an id for each, from one on; and a buffer.
+pub record MaySealAll (size : ℕ) (slots : List ℕ) (id : ℕ) (filled : List Contents) (image : List ℕ)
+    (digests : List (List ℕ)) : Type 0 where
+  pub places : AreSlots size slots
+  pub each : length filled ≡ length slots
+  pub room : length digests ≡ length slots
+  pub there : HaveSegments filled
+  pub ids : (i : ℕ) → i < length slots → is_id (id + i) ≡ true
+  pub buffer : length image ≡ SLOT_BYTES
 
 -- ---- places outside of the slots
 
@@ -72,6 +84,13 @@ abbrev pub AreDigests : ℕ → ℕ → List Contents → List (List ℕ) → Ty
 AreDigests count id filled digests =
     (i : ℕ) (contents : Contents) → i < count → slice_get filled i ≡ Some contents
     → get_or digests i [] ≡ header_digest (header_of (id + i) contents.kind contents.segments)
+
+-- What is left of a call that spelled so many: one of them in the buffer; and, if it succeeded, their digests.
+pub record AreSpelled {A E : Type 0} (result : Result A E) (count id : ℕ) (filled : List Contents) (image : List ℕ)
+    (digests : List (List ℕ)) : Type 0 where
+  pub size : length image ≡ SLOT_BYTES
+  pub one : SpellsOne id filled image
+  pub digests_are : IfOk result (λ _. AreDigests count id filled digests)
 
 -- Containers are being written, each to its slot. From an image: slots that were closed are closed still. Or, from what the disk
 -- gave at the start, each of the slots is closed or has its container, whichever of them. All else is as it was there.

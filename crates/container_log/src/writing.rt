@@ -1,11 +1,11 @@
 //! Containers written to their slots, and slots made free: several with two syncs, or with one.
-ghost use Rattle.std.specs.Prelude.{◌≡◌, ◌⊎◌, ◌∷◌, ◌+◌, ◌<◌, ◌≤◌, ℕ, List, [], true, length, slice_get, Some, None, OnOk, IfOk, IfErr};
+ghost use Rattle.std.specs.Prelude.{◌≡◌, ◌⊎◌, ◌∷◌, ◌+◌, ◌<◌, ◌≤◌, ℕ, List, [], true, length, drop, slice_get, Some, None, OnOk, IfOk, IfErr};
 ghost use Rattle.base_model.specs.Known.{Known, KnownWith};
 ghost use Rattle.disk_format.specs.declared.numbers.TheConstants.{SLOT_BYTES};
 ghost use Rattle.disk_format.specs.Layout.{slot_at};
 ghost use Rattle.dd_disk.specs.Ending.{WriteCall, ending};
 ghost use Rattle.dd_disk.specs.Moves.{step, Moves};
-ghost use Rattle.dd_disk.specs.Writes.{Puts, Writes};
+ghost use Rattle.dd_disk.specs.Writes.{Puts, Torn, Writes};
 ghost use Rattle.dd_disk.specs.Wrote.{SameIn, Wrote};
 ghost use Rattle.container_meta.specs.Format.{is_id};
 ghost use Rattle.container_meta.specs.Segments.{Contents};
@@ -14,18 +14,19 @@ ghost use Rattle.container_log.specs.declared.fault.LogFault.TheVariants.{DiskWr
 ghost use Rattle.container_log.specs.Faults.{blames};
 ghost use Rattle.container_log.specs.Many.{
   AreSlots,
-  HaveSegments,
   NoBody,
   NoGate,
   HaveBodies,
   HaveGates,
-  SpellsOne,
-  AreDigests,
+  IsSlotOf,
+  MaySealAll,
+  AreSpelled,
   SealsAll,
   AreSealed,
   FreesAll,
   AreFreed,
   placed,
+  spelling_of,
 };
 ghost use Rattle.container_log.specs.Writing.{Seals, IsSealed, Frees, IsFreed};
 ghost use Rattle.store_model.specs.Collisions.{ByteSet, IsIn, HasNoCollisions, Stands};
@@ -40,7 +41,30 @@ use dd_disk::{Disk, DiskFault, sync_all, write_unsynced};
 use disk_format::{CONTAINER_GATE, slot_at};
 use std::slice;
 
-// Writes what comes after the gate of each container to its slot.
+// Writes what comes after the gate of a container to its slot, and gives the digest of its header.
+fn write_body<D: Disk>(
+    disk: &mut D,
+    slot: u32,
+    id: u64,
+    filled: &OpenContainer,
+    image: &mut [u8],
+) -> Result<[u8; 32], DiskFault>
+    requires place { slot_at slot + SLOT_BYTES ≤ (D.view disk.old).size }
+    requires there { 1 ≤ length filled.now.segments }
+    requires id { is_id id ≡ true }
+    requires image { length image.old ≡ SLOT_BYTES }
+    ensures image { image.new ≡ spelling_of id filled.now }
+    ensures slot { IsSlotOf id filled.now.kind filled.now.segments image.new }
+    ensures digest { IfOk result (λ digest. digest ≡ header_digest (header_of id filled.now.kind filled.now.segments)) }
+    ensures wrote { Wrote (Torn (slot_at slot + 1) (length (drop 1 image.new))) (Puts (slot_at slot + 1) (drop 1 image.new))
+        (ending (λ _. WriteCall) result) (D.view disk.old) (D.view disk.new) }
+{
+    let header_digest = filled.encode(id, image);
+    write_unsynced(disk, slot_at(slot) + 1, &image[1..])?;
+    Ok(header_digest)
+}
+
+// The same of each container.
 fn write_bodies<D: Disk>(
     disk: &mut D,
     slots: &[u32],
@@ -49,19 +73,13 @@ fn write_bodies<D: Disk>(
     image: &mut [u8],
     digests: &mut [[u8; 32]],
 ) -> Result<(), DiskFault>
-    requires slots { AreSlots (D.view disk.old).size slots.now }
-    requires many { (length filled.now ≡ length slots.now) × (length digests.old ≡ length slots.now) }
-    requires there { HaveSegments filled.now }
-    requires ids { (i : ℕ) → i < length slots.now → is_id (id + i) ≡ true }
-    requires image { length image.old ≡ SLOT_BYTES }
-    ensures image { (length image.new ≡ SLOT_BYTES) × SpellsOne id filled.now image.new }
-    ensures digests { IfOk result (λ _. AreDigests (length slots.now) id filled.now digests.new) }
+    requires { MaySealAll (D.view disk.old).size slots.now id filled.now image.old digests.old }
+    ensures spelled { AreSpelled result (length slots.now) id filled.now image.new digests.new }
     ensures wrote { Wrote (SameIn (NoBody slots.now)) (HaveBodies (length slots.now) slots.now id filled.now)
         (ending (λ _. WriteCall) result) (D.view disk.old) (D.view disk.new) }
 {
     for index in 0..slots.len() {
-        digests[index] = filled[index].encode(id + index as u64, image);
-        write_unsynced(disk, slot_at(slots[index]) + 1, &image[1..])?;
+        digests[index] = write_body(disk, slots[index], id + index as u64, &filled[index], image)?;
     }
     Ok(())
 }
@@ -75,13 +93,8 @@ fn sync_bodies<D: Disk>(
     image: &mut [u8],
     digests: &mut [[u8; 32]],
 ) -> Result<(), DiskFault>
-    requires slots { AreSlots (D.view disk.old).size slots.now }
-    requires many { (length filled.now ≡ length slots.now) × (length digests.old ≡ length slots.now) }
-    requires there { HaveSegments filled.now }
-    requires ids { (i : ℕ) → i < length slots.now → is_id (id + i) ≡ true }
-    requires image { length image.old ≡ SLOT_BYTES }
-    ensures image { (length image.new ≡ SLOT_BYTES) × SpellsOne id filled.now image.new }
-    ensures digests { IfOk result (λ _. AreDigests (length slots.now) id filled.now digests.new) }
+    requires { MaySealAll (D.view disk.old).size slots.now id filled.now image.old digests.old }
+    ensures spelled { AreSpelled result (length slots.now) id filled.now image.new digests.new }
     ensures writes { Writes (λ _. SameIn (NoBody slots.now)) (HaveBodies (length slots.now) slots.now id filled.now)
         (ending (λ _. WriteCall) result) (D.view disk.old) (D.view disk.new) }
 {
@@ -120,13 +133,8 @@ fn write_containers<D: Disk>(
     image: &mut [u8],
     digests: &mut [[u8; 32]],
 ) -> Result<(), DiskFault>
-    requires slots { AreSlots (D.view disk.old).size slots.now }
-    requires many { (length filled.now ≡ length slots.now) × (length digests.old ≡ length slots.now) }
-    requires there { HaveSegments filled.now }
-    requires ids { (i : ℕ) → i < length slots.now → is_id (id + i) ≡ true }
-    requires image { length image.old ≡ SLOT_BYTES }
-    ensures image { (length image.new ≡ SLOT_BYTES) × SpellsOne id filled.now image.new }
-    ensures digests { IfOk result (λ _. AreDigests (length slots.now) id filled.now digests.new) }
+    requires { MaySealAll (D.view disk.old).size slots.now id filled.now image.old digests.old }
+    ensures spelled { AreSpelled result (length slots.now) id filled.now image.new digests.new }
     ensures writes { Writes (SealsAll slots.now id filled.now) (AreSealed slots.now id filled.now)
         (ending (λ _. WriteCall) result) (D.view disk.old) (D.view disk.new) }
 {
@@ -147,13 +155,8 @@ pub fn seal_all<D: Disk>(
     image: &mut [u8],
     digests: &mut [[u8; 32]],
 ) -> Result<(), LogFault>
-    requires slots { AreSlots (D.view disk.old).size slots.now }
-    requires many { (length filled.now ≡ length slots.now) × (length digests.old ≡ length slots.now) }
-    requires there { HaveSegments filled.now }
-    requires ids { (i : ℕ) → i < length slots.now → is_id (id + i) ≡ true }
-    requires image { length image.old ≡ SLOT_BYTES }
-    ensures image { (length image.new ≡ SLOT_BYTES) × SpellsOne id filled.now image.new }
-    ensures digests { IfOk result (λ _. AreDigests (length slots.now) id filled.now digests.new) }
+    requires { MaySealAll (D.view disk.old).size slots.now id filled.now image.old digests.old }
+    ensures spelled { AreSpelled result (length slots.now) id filled.now image.new digests.new }
     ensures writes { Writes (SealsAll slots.now id filled.now) (AreSealed slots.now id filled.now)
         (ending blames result) (D.view disk.old) (D.view disk.new) }
     ensures fault { IfErr result (λ fault. fault ≡ DiskWrite) }

@@ -1,14 +1,6 @@
 -- Reading entries one after the other, as a loop does.
 use Rattle.container_meta.proofs.Prelude.{◌≡◌, ℕ, suc, ◌+◌, ◌-◌, ◌≤◌, ◌<◌, List, [], ◌∷◌, ◌++◌, Result, Ok, Err, sym, ap, ◌∙◌, arith, ◌>>=◌, Kind, Entry, MetaFault, next_read}
-use Rattle.container_meta.specs.declared.fault.MetaFault.TheVariants.{Gate, Magic, Field, Digest, Memory}
-use Rattle.container_meta.specs.Reading.{Fails, entries_at}
-
-pub fails_so : {Y : Type 0} (e : MetaFault) (read : Result Y MetaFault) → read ≡ Err e → Fails e read
-fails_so Memory read h = tt
-fails_so (Gate byte) read h = h
-fails_so Magic read h = h
-fails_so (Field offset got) read h = h
-fails_so (Digest want got) read h = h
+use Rattle.container_meta.specs.Reading.{entries_at}
 
 pub goes_on : (kind : Kind) (data_length count i : ℕ) (before : List Entry) (bytes : List ℕ) (e : Entry) (total : Result (List Entry) MetaFault) → i < count
     → Ok e ≡ next_read kind data_length (count - 1 - i) before bytes

@@ -2,10 +2,10 @@
 use Rattle.std.proofs.Common.{◌≡◌, inl, inr, ℕ, List, Some, Result, Ok, Err, sym, ◌∙◌, subst}
 use Rattle.std.specs.Result.{IsErrAnd}
 use Rattle.dd_disk.specs.View.{DiskView, IsLater, OnlyReads, IsDurable, CrashLeaves, SteppedFrom}
-use Rattle.dd_disk.specs.Ending.{Ending, Blame, ending, ending_of, Done, Refused, Unread, Broken, NoCall, ReadCall, WriteCall}
+use Rattle.dd_disk.specs.Ending.{Ending, Blame, ending, ending_of, Done, Refused, Unread, Broken}
 use Rattle.dd_disk.specs.Writes.{Writes, Written}
-use Rattle.dd_disk.specs.Moves.{StandsFor, Way, step, Arrives, Moves, Ends, StaysDurable, Acts}
-use Rattle.dd_disk.proofs.Later.{leaves_weaker, reads_here, reads_leave, durable_reads}
+use Rattle.dd_disk.specs.Moves.{StandsFor, Way, step, Arrives, Moves}
+use Rattle.dd_disk.proofs.Later.{leaves_weaker}
 
 pub stands_weaker : (P Q : List ℕ → Type 0) (v : DiskView) → ((c : List ℕ) → P c → Q c) → StandsFor P v → StandsFor Q v
 stands_weaker P Q v each stands = record { known = stands.known; each = λ c image. each c (stands.each c image) }
@@ -51,41 +51,11 @@ module _ (P B Q : List ℕ → Type 0) (steps : List ℕ → List ℕ → List �
       ]) (writes.steps given known) in
       record { leaves = leaves; arrives = arrives_written e stands writes.later leaves writes.written }
 
--- nothing was called
-pub moves_none : (way : Way) (v : DiskView) → ((c : List ℕ) → way.before c → way.between c) → Moves way Refused v v
-moves_none way v starts stands = record { leaves = reads_leave way.between v v (λ c image. starts c (stands.each c image)) (reads_here v); arrives = inl (reads_here v) }
-
 -- a way begins with another one
 pub record Begins (first way : Way) : Type 0 where
   pub before : (c : List ℕ) → way.before c → first.before c
   pub between : (c : List ℕ) → first.between c → way.between c
   pub rest : (c : List ℕ) → first.rest c → way.rest c
-
--- and goes on with a next one
-pub record Joins (first next way : Way) : Type 0 where
-  pub begins : Begins first way
-  pub meet : (c : List ℕ) → first.after c → next.before c
-  pub between : (c : List ℕ) → next.between c → way.between c
-  pub waits : (c : List ℕ) → first.after c → way.rest c
-  pub rest : (c : List ℕ) → next.rest c → way.rest c
-  pub after : (c : List ℕ) → next.after c → way.after c
-
-module _ (first way : Way) (old new : DiskView) (begins : Begins first way) where
-  arrives_stop : (b : Blame) → Arrives first (ending_of b) old new → Arrives way (ending_of b) old new
-  arrives_stop WriteCall arrives = stands_weaker first.between way.between new begins.between arrives
-  arrives_stop ReadCall (inl reads) = inl reads
-  arrives_stop ReadCall (inr rests) = inr (stands_weaker first.rest way.rest new begins.rest rests)
-  arrives_stop NoCall (inl reads) = inl reads
-  arrives_stop NoCall (inr rests) = inr (stands_weaker first.rest way.rest new begins.rest rests)
-
-module _ (first next way : Way) (old mid new : DiskView) (joins : Joins first next way) where
-  arrives_on : (e : Ending) → StandsFor first.after mid → Arrives next e mid new → Arrives way e old new
-  arrives_on Done stands arrives = stands_weaker next.after way.after new joins.after arrives
-  arrives_on Refused stands (inl reads) = inr (stands_weaker first.after way.rest new joins.waits (stands_reads first.after mid new stands reads))
-  arrives_on Refused stands (inr rests) = inr (stands_weaker next.rest way.rest new joins.rest rests)
-  arrives_on Unread stands (inl reads) = inr (stands_weaker first.after way.rest new joins.waits (stands_reads first.after mid new stands reads))
-  arrives_on Unread stands (inr rests) = inr (stands_weaker next.rest way.rest new joins.rest rests)
-  arrives_on Broken stands arrives = stands_weaker next.between way.between new joins.between arrives
 
 -- what is said of a way is said of a wider one
 module _ (first way : Way) (old new : DiskView) (begins : Begins first way) (after : (c : List ℕ) → first.after c → way.after c) where
@@ -103,18 +73,6 @@ module _ (first way : Way) (old new : DiskView) (begins : Begins first way) (aft
       record { leaves = leaves_weaker first.between way.between old new begins.between moved.leaves; arrives = arrives_wider e moved.arrives }
 
 -- ---- whatever the disk stands for
-
-ends_alone : (e : Ending) (old new : DiskView) → Ends OnlyReads e old new → Ends StaysDurable e old new
-ends_alone Done old new ends = ends
-ends_alone Refused old new ends = λ durable. durable_reads old new durable ends
-ends_alone Unread old new ends = λ durable. durable_reads old new durable ends
-ends_alone Broken old new ends = tt
-
-ends_on : (e : Ending) (old mid new : DiskView) → Acts Done old mid → Ends OnlyReads e mid new → Ends StaysDurable e old new
-ends_on Done old mid new first ends = λ durable. ends (first.ends durable)
-ends_on Refused old mid new first ends = λ durable. durable_reads mid new (first.ends durable) ends
-ends_on Unread old mid new first ends = λ durable. durable_reads mid new (first.ends durable) ends
-ends_on Broken old mid new first ends = tt
 
 -- a `?` passes an error on
 pub passed : {T E : Type 0} (X : Ending → Type 0) (blames : E → Blame) (result : Result T E) (error : E) → IsErrAnd result (λ y. y ≡ error) → X (ending_of (blames error)) →

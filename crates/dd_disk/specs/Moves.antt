@@ -24,10 +24,6 @@ step before between after = record { before = before; between = between; rest = 
 abbrev pub one_step : (List ℕ → Type 0) → (List ℕ → Type 0) → Way
 one_step P Q = step P (λ c. P c ⊎ Q c) Q
 
--- In two, with a rest between them.
-abbrev pub two_steps : (List ℕ → Type 0) → (List ℕ → Type 0) → (List ℕ → Type 0) → Way
-two_steps P Q R = record { before = P; between = λ c. P c ⊎ Q c ⊎ R c; rest = Q; after = R }
-
 abbrev pub Arrives : Way → Ending → DiskView → DiskView → Type 0
 Arrives way Done old new = StandsFor way.after new
 Arrives way Refused old new = OnlyReads old new ⊎ StandsFor way.rest new
@@ -53,13 +49,4 @@ Ends refused Broken old new = Unit {0}
 pub record Acts (ending : Ending) (old new : DiskView) : Type 0 where
   pub later : IsLater old new
   pub ends : Ends OnlyReads ending old new
-  pub faults_are : CountsFault ending old.faults new.faults
-
-abbrev pub StaysDurable : DiskView → DiskView → Type 0
-StaysDurable old new = IsDurable old → IsDurable new
-
--- steps, each of which may be refused
-pub record Calls (ending : Ending) (old new : DiskView) : Type 0 where
-  pub later : IsLater old new
-  pub ends : Ends StaysDurable ending old new
   pub faults_are : CountsFault ending old.faults new.faults

@@ -1,13 +1,12 @@
 -- The parts of a cell.
-use Rattle.std.proofs.Common.{◌≡◌, ℕ, ◌-◌, List, [], ◌∷◌, ◌++◌, length, take, refl, sym, ◌∙◌, ap, arith, append_assoc, length-append}
-use Rattle.std.proofs.lemmas.List.{take_at, take_all, drop_at}
+use Rattle.std.proofs.Common.{◌≡◌, ℕ, ◌-◌, List, [], ◌∷◌, ◌++◌, length, refl, sym, ◌∙◌, ap, arith, length-append}
+use Rattle.std.proofs.lemmas.List.{take_all}
 use Rattle.std.specs.Int.{w64, to_be_bytes}
 use Rattle.sha2.specs.Sha256.{sha256}
 use Rattle.sha2.proofs.Facts256.{length-sha256}
-use Rattle.base_model.specs.Bytes.{range, byte_at, zeros}
+use Rattle.base_model.specs.Bytes.{range, byte_at}
 use Rattle.base_model.proofs.Ranges.{length-zeros, range-join, range-one, range-whole, range-first, range-second}
-use Rattle.disk_format.specs.Cells.{sealed, format_fields, SelectorValue, selector_fields, put_fields, put_cell, Root}
-use Rattle.disk_format.specs.declared.numbers.TheConstants.{RECORD_GATE}
+use Rattle.disk_format.specs.Cells.{sealed, format_fields, SelectorValue, selector_fields, Root}
 
 pub gate-sealed : (gate : ℕ) (fields : List ℕ) → byte_at 0 (sealed gate fields) ≡ gate
 unfolding sealed
@@ -25,34 +24,10 @@ pub length-selector_fields : (s : SelectorValue) → length (selector_fields s) 
 unfolding selector_fields
 length-selector_fields s = omega (arith, length-zeros 451)
 
--- bytes after others
-range-middle : (front x back : List ℕ) (at count : ℕ) → length front ≡ at → length x ≡ count → range at count (front ++ (x ++ back)) ≡ x
-unfolding range
-range-middle front x back at count before long = ap (take count) (drop_at front (x ++ back) at before) ∙ take_at x back count long
-
-grouped : (a b c d : List ℕ) → ((a ++ b) ++ c) ++ d ≡ a ++ (b ++ (c ++ d))
-grouped a b c d = append_assoc (a ++ b) c d ∙ append_assoc a b (c ++ d)
-
 module _ (name : List ℕ) (root : Root) where
   -- what stands before the digest, without the gate
   front : List ℕ
   front = (1 ∷ length name ∷ []) ++ to_be_bytes w64 1 ++ to_be_bytes w64 root.length ++ (root.level ∷ [])
-
-  length-front : length front ≡ 19
-  unfolding front
-  length-front = refl
-
-  rest : List ℕ
-  rest = zeros (428 - length name) ++ sha256 (put_fields 1 name root)
-
-  regrouped : put_cell 1 name root ≡ (RECORD_GATE ∷ front) ++ (root.digest ++ (name ++ rest))
-  unfolding sealed put_fields front rest
-  regrouped = ap (λ (l : List ℕ). (RECORD_GATE ∷ front) ++ l) (grouped root.digest name (zeros (428 - length name)) (sha256 (put_fields 1 name root)))
-
-  module _ (digest_long : length root.digest ≡ 32) where
-    pub digest-put : range 20 32 (put_cell 1 name root) ≡ root.digest
-    digest-put =
-        ap (range 20 32) regrouped ∙ range-middle (RECORD_GATE ∷ front) root.digest (name ++ rest) 20 32 (omega (arith, length-front)) digest_long
 
 -- ---- a cell by its parts
 

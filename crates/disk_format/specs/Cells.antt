@@ -55,12 +55,6 @@ pub record IsName (name : List ℕ) : Type 0 where
   pub not_long : length name ≤ MOST_NAME
   pub printable : All (λ byte. (0x21 ≤ byte) × (byte ≤ 0x7E)) name
 
--- operation 1: the name has this root from that sequence number on
-unfoldable pub put_fields : ℕ → List ℕ → Root → List ℕ
-put_fields sequence name root =
-    (1 ∷ length name ∷ []) ++ to_be_bytes w64 sequence ++ to_be_bytes w64 root.length ++ (root.level ∷ []) ++ root.digest ++ name
-    ++ zeros (428 - length name)
-
 -- what a record says of its name
 pub data Change : Type 0 where
   Put : (root : Root) → Change
@@ -119,6 +113,3 @@ pub record IsRecord (r : RecordValue) : Type 0 where
   pub sequence : r.sequence < 2 ^ 64
   pub name : IsName r.name
   pub change : IsChange r.change
-
-abbrev pub put_cell : ℕ → List ℕ → Root → List ℕ
-put_cell sequence name root = sealed RECORD_GATE (put_fields sequence name root)

@@ -8,7 +8,6 @@ pub mod Filling
 pub mod Formats
 pub mod Found
 pub mod Inspected
-pub mod Listed
 pub mod Names
 pub mod Outcomes
 pub mod Parts

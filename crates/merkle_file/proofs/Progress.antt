@@ -1,5 +1,5 @@
 -- What a builder keeps, from call to call.
-use Rattle.merkle_file.proofs.Prelude.{◌≡◌, ℕ, zero, suc, ◌+◌, List, [], ◌∷◌, ◌++◌, length, map, take, drop, refl, sym, ap, ◌∙◌, append_assoc, arith, inl, inr, cases_lt, Vec, append-nil, map-append, take_at, Child, MOST_CHILDREN, MOST_LEVEL, ByCount, Contents, IsChild, Leaf, nodes_of, root_of, itself, tree_of, Progress, Holds, MayPush, open_over, nodes_in_rows, CanPlace, CanClose, items_of}
+use Rattle.merkle_file.proofs.Prelude.{◌≡◌, ℕ, zero, suc, ◌+◌, List, [], ◌∷◌, ◌++◌, length, map, take, drop, refl, sym, ap, ◌∙◌, append_assoc, arith, inl, inr, cases_lt, Vec, append-nil, map-append, take_at, Child, MOST_CHILDREN, MOST_LEVEL, ByCount, Contents, IsChild, Leaf, nodes_of, root_of, itself, tree_of, Progress, Holds, MayPush, open_over, nodes_in_rows, CanPlace, items_of}
 use Rattle.std.proofs.Common.{replicate}
 use Rattle.merkle_file.specs.Tree.{tree_over}
 use Rattle.merkle_file.specs.Building.{IsProgress, open_trees, count_of, total_of, AreRows, whole_from, rest_from}
@@ -92,17 +92,6 @@ may_place rows finished leaves c h may digest = record {
   child = record { digest = digest; some = may.some; most = may.most };
   room = rw h.levels (omega (arith, h.counted, may.count));
   total = may.total;
-}
-
-pub may_close : (rows : List (List Child)) (finished : List Contents) (leaves : ℕ) → IsProgress (progress rows finished leaves) → CanClose 0 [] rows
-may_close rows finished leaves h = record {
-  levels = omega (arith, h.levels);
-  some = omega (arith, h.levels);
-  right = h.rows;
-  one = omega arith;
-  each = tt;
-  room = rw h.levels (omega (arith, h.counted, h.count));
-  total = omega (arith, h.total);
 }
 
 pub pushed_progress : (rows rows' : List (List Child)) (finished finished' : List Contents) (leaves : ℕ) (c : Child) → IsProgress (progress rows finished leaves) →

@@ -1,13 +1,12 @@
 -- Slots once one of them is closed, and the image whose gate was cleared.
-use Rattle.store_model.proofs.Prelude.{◌≡◌, ◌≢◌, ◌⊎◌, inl, inr, ℕ, zero, suc, ◌+◌, ◌<◌, ◌≤◌, List, [], ◌∷◌, ◌++◌, length, get_or, Option, Some, None, refl, sym, ◌∙◌, ap, subst, arith, slice_get, range, byte_at, SameOutside, byte-range, FIRST_SLOT, SLOT_BYTES, slot_at, HeaderValue, with_freed, HasNoGate, SameButGates, Store, Encodes, IsValidFor, HoldsSlot, HoldSlots, AreHeaders, IsUnusedId, DifferentIds, free_slots, ids_of, without_slot, HasJournal}
+use Rattle.store_model.proofs.Prelude.{◌≡◌, ◌≢◌, ◌⊎◌, inl, inr, ℕ, zero, suc, ◌+◌, ◌<◌, ◌≤◌, List, [], ◌∷◌, ◌++◌, length, get_or, Option, Some, None, refl, sym, ◌∙◌, ap, subst, arith, slice_get, range, byte_at, SameOutside, byte-range, SLOT_BYTES, slot_at, HeaderValue, with_freed, HasNoGate, SameButGates, Store, Encodes, IsValidFor, HoldsSlot, HoldSlots, AreHeaders, IsUnusedId, DifferentIds, free_slots, ids_of, without_slot}
 use Rattle.container_meta.specs.Spelling.{header_size}
 use Rattle.std.proofs.Common.{slice_set}
 use Rattle.std.proofs.lemmas.List.{ext_get_or}
 use Rattle.base_model.proofs.Frames.{byte_before, byte_after}
 use Rattle.store_model.proofs.Copies.{some_same}
-use Rattle.store_model.proofs.Frames.{SameTo, slot_kept, slots_kept}
+use Rattle.store_model.proofs.Frames.{slot_kept, slots_kept}
 use Rattle.store_model.proofs.FramedTrees.{before_slots, encodes_on}
-use Rattle.store_model.proofs.Journaled.{has_kept}
 use Rattle.store_model.proofs.Kept.{other_same}
 
 -- ---- the slots
@@ -113,17 +112,6 @@ module _ (slot : ℕ) (old new : List ℕ) (same : SameOutside (slot_at slot) SL
   holds_without from (suc index) (c ∷ cs) place here holds =
       (slot_kept from old new (other_same slot from old new same (omega (arith, place))) c holds.0, holds_without (from + 1) index cs (omega (arith, place)) here holds.1)
 
-  -- it has what it had
-  holds_again : (from index : ℕ) (here : Option HeaderValue) (held : List (Option HeaderValue)) → slot ≡ from + index → slice_get held index ≡ Some here → HoldsSlot new slot here
-      → HoldSlots from held old → HoldSlots from held new
-  holds_again from index here [] place there has holds = tt
-  holds_again from zero here (c ∷ cs) place there has holds = (
-    subst (λ (d : Option HeaderValue). HoldsSlot new from d) (sym (some_same c here there)) (subst (λ (s : ℕ). HoldsSlot new s here) (place ∙ omega arith) has),
-    slots_kept old new (from + 1) cs (λ other above below. other_same slot other old new same (omega (arith, place, above))) holds.1,
-  )
-  holds_again from (suc index) here (c ∷ cs) place there has holds =
-      (slot_kept from old new (other_same slot from old new same (omega (arith, place))) c holds.0, holds_again (from + 1) index here cs (omega (arith, place)) there has holds.1)
-
 -- closed, it is the store with the slot closed
 pub encodes_freed : (slot : ℕ) (h : HeaderValue) (s : Store) (old new : List ℕ) → Encodes old s → slice_get s.held slot ≡ Some (Some h) → SameOutside (slot_at slot) 1 old new
     → HoldsSlot new slot None → Encodes new (with_freed slot s)
@@ -194,16 +182,3 @@ same_more a b old mid new first second = record {
   size = second.size ∙ first.size;
   same = λ at count none. second.same at count (gates_second a b at count none) ∙ first.same at count (gates_first a b at count none);
 }
-
--- no gate of a slot lies before the slots
-gates_after : (slots : List ℕ) (at count : ℕ) → at + count ≤ FIRST_SLOT → HasNoGate slots at count
-gates_after [] at count within = tt
-gates_after (slot ∷ slots) at count within = (inl (omega (arith, within)), gates_after slots at count within)
-
--- so all before them is as it was
-pub same_before : (slots old new : List ℕ) → SameButGates slots old new → SameTo FIRST_SLOT old new
-same_before slots old new same p n within = same.same p n (gates_after slots p n within)
-
--- and the journal
-pub journal_same : (s : Store) (freed old new : List ℕ) → Encodes old s → HasJournal s old → SameButGates freed old new → HasJournal s new
-journal_same s freed old new right has same = has_kept s old new (same_before freed old new same) has

@@ -17,7 +17,6 @@ pub mod IndexSize
 pub mod Indexing
 pub mod Journaled
 pub mod Kept
-pub mod Listed
 pub mod Lookups
 pub mod NameChanges
 pub mod NewestSealed

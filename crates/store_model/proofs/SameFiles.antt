@@ -1,9 +1,7 @@
 -- An image is a store of one map of files at most, and the file of a name is that of its root.
-use Rattle.store_model.proofs.Prelude.{◌≡◌, ℕ, Bool, true, false, ◌≤◌, List, length, Option, Some, None, refl, sym, ◌∙◌, ap, subst, nat_le, nat_list_cmp_total, leb-true, MOST_FILE, Root, IsRoot, HeaderValue, Named, of_segment, Files, Store, Encodes, names_of, last_sequence, HasRoot, IsFileOf, IsStoreOf, StandsFor, root_of, HoldsTree}
+use Rattle.store_model.proofs.Prelude.{◌≡◌, ℕ, Bool, true, false, ◌≤◌, List, length, Option, Some, None, refl, sym, ◌∙◌, ap, subst, nat_le, nat_list_cmp_total, leb-true, MOST_FILE, Root, IsRoot, HeaderValue, Named, Files, Store, Encodes, names_of, last_sequence, HasRoot, IsFileOf, IsStoreOf, StandsFor, root_of, HoldsTree}
 use Rattle.std.specs.Prelude.{◌&&◌}
 use Rattle.std.specs.FinMap as finite
-use Rattle.merkle_file.specs.Tree as tree
-use Rattle.merkle_file.specs.Tree.{Tree, Leaf}
 use Rattle.store_model.specs.Trees.{file_tree}
 use Rattle.store_model.proofs.Once.{store_once}
 use Rattle.store_model.proofs.Roots.{root_of_name}
@@ -101,10 +99,3 @@ file_of_root name root store files image holds has =
     let some = some_file store.held image named (finite.get files name)
     (subst (λ (o : Option Named). IsFileOf store.held image o (finite.get files name)) has.1 (holds.files_are name)) in
     record { bytes = some.0; filed = some.1; root_is = some.2; held = some.3 }
-
--- ---- short files
-
-root_by : (bytes : List ℕ) (t : Tree (List ℕ)) → file_tree bytes ≡ t
-    → root_of bytes ≡ (let top = tree.root_of of_segment t in record { length = length bytes; level = top.level; digest = top.digest })
-root_by bytes t is = ap (λ (u : Tree (List ℕ)). let top = tree.root_of of_segment u in let r : Root = record { length = length bytes; level = top.level; digest = top.digest } in
-    r) is

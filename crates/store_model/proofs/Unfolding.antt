@@ -70,11 +70,6 @@ mutual
 abbrev pub IsRightTree : Tree (List ℕ) → Type 0
 IsRightTree t = AllByRecursion IsTree (trees_in t)
 
-some_length : (t : Tree (List ℕ)) → level_of t ≡ 0 → IsTree t → 1 ≤ (child_of of_segment t).length
-some_length Empty level right = absurd right
-some_length (Leaf a) level right = right
-some_length (Node l ts) level right = absurd (omega (arith, right.0.above, level))
-
 -- Two right trees that are held and have one root are one tree.
 pub trees_agree : (held : List (Option HeaderValue)) (image : List ℕ) (t u : Tree (List ℕ)) → IsRightTree t → IsRightTree u → HoldsTree held image t → HoldsTree held image u
     → tree.root_of of_segment t ≡ tree.root_of of_segment u → t ≡ u

@@ -1,14 +1,13 @@
 -- Which containers may be given back, and what reserve of slots an image has (docs/MODEL.md, 'The reserve').
 use Rattle.std.specs.Prelude.{◌≡◌, ◌≢◌, ◌⊎◌, ◌<◌, ℕ, List, [], ◌∷◌, ◌++◌, slice_get, Bool, Option, Some, None}
 use Rattle.std.specs.FinMap as finite
-use Rattle.std.specs.List.{AllByRecursion, Contains, list_any}
+use Rattle.std.specs.List.{Contains, list_any}
 use Rattle.std.specs.Str.{bytes_eq}
 use Rattle.container_meta.specs.Spelling.{HeaderValue}
 use Rattle.merkle_file.specs.Tree as tree
 use Rattle.merkle_file.specs.Tree.{Tree, Trees}
 use Rattle.merkle_file.specs.Walk.{contents_of}
 use Rattle.store_model.specs.Files.{Files}
-use Rattle.store_model.specs.Needed.{IsNeededCopy}
 use Rattle.store_model.specs.Slots.{Copy, newest}
 use Rattle.store_model.specs.Trees.{HoldsTree, file_tree, leaf_key, node_key}
 
@@ -42,13 +41,6 @@ key_set keys key = list_any (bytes_eq key) keys
 abbrev pub IsReachable : Files → List ℕ → Type 0
 IsReachable files key =
     (name : List ℕ) × ((bytes : List ℕ) × ((finite.get files name ≡ Some bytes) × Contains (tree_keys (file_tree bytes)) key))
-
--- The containers hold just what the files need, and each key of that once: each entry of each container is the newest copy of such a key,
--- and of each such key there is a copy.
-pub record HoldsJustNeeded (files : Files) (held : List (Option HeaderValue)) : Type 0 where
-  pub each : (slot : ℕ) (h : HeaderValue) → slice_get held slot ≡ Some (Some h)
-      → AllByRecursion (IsNeededCopy (IsReachable files) held h.kind slot) h.entries
-  pub all : (key : List ℕ) → IsReachable files key → (copy : Copy) × (newest 0 held key ≡ Some copy)
 
 -- ---- slots, by the keys that are needed: those of which P holds
 

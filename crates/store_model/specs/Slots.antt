@@ -93,10 +93,6 @@ abbrev pub IsPartialIndexOf : List (Option HeaderValue) → PlaceMap → Type 0
 IsPartialIndexOf containers places = (key : List ℕ) (place : Place) → finite.get places key ≡ Some place
     → option_map (λ c. c.place) (newest 0 containers key) ≡ Some place
 
--- the segment of the bytes of a file
-abbrev pub leaf_segment : List ℕ → Segment
-leaf_segment bytes = record { level = 0; bytes = bytes }
-
 -- the greatest id, 0 where there is no container
 abbrev pub last_id : List (Option HeaderValue) → ℕ
 last_id [] = 0

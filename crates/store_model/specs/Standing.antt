@@ -1,5 +1,5 @@
 -- Which files a disk image stands for (docs/MODEL.md, 'Images').
-use Rattle.std.specs.Prelude.{◌≡◌, ℕ, ◌+◌, ◌≤◌, List, [], ◌∷◌, map, slice_get, Option, Some, None}
+use Rattle.std.specs.Prelude.{◌≡◌, ℕ, ◌+◌, ◌≤◌, List, [], ◌∷◌, slice_get, Option, Some, None}
 use Rattle.std.specs.FinMap as finite
 use Rattle.std.specs.List.{AllByRecursion}
 use Rattle.base_model.specs.Bytes.{range}
@@ -10,7 +10,6 @@ use Rattle.container_meta.specs.declared.kind.Kind.{Kind}
 use Rattle.container_meta.specs.declared.kind.Kind.TheVariants.{Leaf, Tree}
 use Rattle.container_meta.specs.Spelling.{HeaderValue}
 use Rattle.namespace.specs.declared.record.Named.{Named}
-use Rattle.namespace.specs.Listing.{NamedRoot}
 use Rattle.namespace.specs.Names.{NameMap}
 use Rattle.segmenter.specs.Segments.{segments_of}
 use Rattle.store_model.specs.Files.{Files, no_files}
@@ -46,10 +45,6 @@ IsFileOf held image (Some named) (Some bytes) = (named.root ≡ root_of bytes) �
 -- the files are those of the names
 abbrev pub AreFilesOf : List (Option HeaderValue) → NameMap → List ℕ → Files → Type 0
 AreFilesOf held names image files = (name : List ℕ) → IsFileOf held image (finite.get names name) (finite.get files name)
-
--- what is listed of files: each name with the root of its file, in the order of the names' bytes
-abbrev pub file_listing : Files → List NamedRoot
-file_listing files = map (λ (e : List ℕ × List ℕ). record { name = e.0; root = root_of e.1 }) (finite.entries files)
 
 -- The image has the journal of the store, whatever else it has.
 pub record HasJournal (store : Store) (image : List ℕ) : Type 0 where

@@ -31,13 +31,13 @@ pub fn an_image_holds_one_store()
 /// of them, whichever, of the same files, and keeps all copies; and with all of them where all stand. No two byte lists of its
 /// data have one digest.
 pub fn sealed_together_keeps_files()
-    ensures some { (among : ByteSet) (ps : List Placed) (store : Store) (files : Files) (image new : List ℕ) → HasNoCollisions (IsIn among)
-        → MayPlace (IsIn among) ps → CanPlace (last_id store.held) ps store → Stands (IsIn among) store files image
-        → AreLeftSo IsLeft ps image new → (marks : List Bool) × Stands (IsIn among) (with_some marks ps store) files new
+    ensures some { (among : ByteSet) (ps : List Placed) (store : Store) (files : Files) (image new : List ℕ)
+        → HasNoCollisions (IsIn among) → MayPlace (IsIn among) ps → CanPlace (last_id store.held) ps store
+        → Stands (IsIn among) store files image → AreLeftSo IsLeft ps image new → (marks : List Bool) × Stands (IsIn among) (with_some marks ps store) files new
         × KeepsCopies AnyKey store image (with_some marks ps store) new }
-    ensures all { (among : ByteSet) (ps : List Placed) (store : Store) (files : Files) (image new : List ℕ) → HasNoCollisions (IsIn among)
-        → MayPlace (IsIn among) ps → CanPlace (last_id store.held) ps store → Stands (IsIn among) store files image
-        → AreLeftSo IsThere ps image new → Stands (IsIn among) (with_all ps store) files new }
+    ensures all { (among : ByteSet) (ps : List Placed) (store : Store) (files : Files) (image new : List ℕ)
+        → HasNoCollisions (IsIn among) → MayPlace (IsIn among) ps → CanPlace (last_id store.held) ps store
+        → Stands (IsIn among) store files image → AreLeftSo IsThere ps image new → Stands (IsIn among) (with_all ps store) files new }
     // The first closed slots serve, where there are as many, and all of them in these make what sealing one after the other makes.
     ensures place { (ps : List Placed) (store : Store) → AreFirstFree ps store → IdsRise (last_id store.held) ps
         → length ps ≤ free_slots store.held

@@ -1,5 +1,5 @@
 -- Places put into an index, and taken back.
-use Rattle.std.proofs.Common.{◌≡◌, ℕ, suc, ◌+◌, ◌≤◌, Bool, true, false, cond, List, [], ◌∷◌, ◌++◌, length, Option, Some, None, Result, Ok, Err, refl, sym, ◌∙◌, ap, subst, arith}
+use Rattle.std.proofs.Common.{◌≡◌, ℕ, suc, ◌+◌, ◌≤◌, Bool, true, false, cond, List, [], ◌∷◌, ◌++◌, length, Option, Some, None, Result, Ok, Err, refl, sym, ◌∙◌, ap, arith}
 use Rattle.std.specs.Prelude.{IsSome, is_some, ◌||◌, nat_le}
 use Rattle.std.proofs.lemmas.Bool.{leb-true, eqb-true}
 use Rattle.base_model.proofs.Checks.{both}
@@ -102,10 +102,6 @@ later_differ kind before e es follow =
 
 pub same_map : (a b : PlaceMap) → Some a ≡ Some b → a ≡ b
 same_map a b e = cc
-
--- of a map that is known
-pub known_is : (P : PlaceMap → Type 0) (known : Option PlaceMap) (m : PlaceMap) → known ≡ Some m → P m → KnownMap known P
-known_is P known m is holds n there = subst P (same_map m n (sym is ∙ there)) holds
 
 pub unknown : (known : Option PlaceMap) → KnownMap known (λ m. ⊥) → known ≡ None
 unknown None none = refl

@@ -1,5 +1,5 @@
 -- What actors are at is still held where newest copies go on.
-use Rattle.std.proofs.Common.{ℕ, zero, suc, slice_set, List, [], ◌∷◌}
+use Rattle.std.proofs.Common.{ℕ, List, [], ◌∷◌}
 use Rattle.std.specs.List.{AllByRecursion}
 use Rattle.actor_parts.specs.declared.part.Part.{Part}
 use Rattle.actor_parts.specs.declared.part.Part.TheVariants.{Idle, Writing, Reading}
@@ -43,10 +43,3 @@ module _ (P Q : List ℕ → Type 0) (s t : Store) (old new : List ℕ) (keeps :
   pub parts_kept : (parts : List Part) → AllByRecursion (HoldsPart P s.held old) parts → AllByRecursion (HoldsPart Q t.held new) parts
   parts_kept [] hold = tt
   parts_kept (p ∷ ps) hold = (part_kept p hold.0, parts_kept ps hold.1)
-
--- what is so of each part is so when one of them is another of which it is so
-module _ {X : Type 0} (P : X → Type 0) where
-  pub all_set : (xs : List X) (i : ℕ) (x : X) → AllByRecursion P xs → P x → AllByRecursion P (slice_set xs i x)
-  all_set [] i x all is = all
-  all_set (y ∷ ys) zero x all is = (is, all.1)
-  all_set (y ∷ ys) (suc i) x all is = (all.0, all_set ys i x all.1 is)

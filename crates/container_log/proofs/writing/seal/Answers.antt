@@ -20,13 +20,13 @@ returns-in_err-seal_all-clause-writes g c =
 pub returns-clause-digest : goal.returns-clause-digest
 returns-clause-digest g c =
     let many : length c.seal_all.new.digests ≡ 1 = omega arith in
-    one_digest c.args.slot c.args.id c.args.filled.now c.from_ref.result.now c.from_ref.ensures.value c.seal_all.new.digests _ many c.in_ok-seal_all.ensures.digests
+    one_digest c.args.slot c.args.id c.args.filled.now c.from_ref.result.now c.from_ref.ensures.value c.seal_all.new.digests _ many c.in_ok-seal_all.ensures.spelled.digests_are
 
 pub returns-clause-whole : goal.returns-clause-whole
 returns-clause-whole g c =
     sealed_whole c.args.slot c.args.id c.args.filled.now c.from_ref.result.now c.from_ref.ensures.value c.seal_all.new.image (g.D.Disk.view c.args.disk.now)
     (g.D.Disk.view c.seal_all.new.disk)
-    (one_spelled c.args.slot c.args.id c.args.filled.now c.from_ref.result.now c.from_ref.ensures.value c.seal_all.new.image c.in_ok-seal_all.ensures.image.1) c.requires.place
+    (one_spelled c.args.slot c.args.id c.args.filled.now c.from_ref.result.now c.from_ref.ensures.value c.seal_all.new.image c.in_ok-seal_all.ensures.spelled.one) c.requires.place
     c.in_ok-seal_all.ensures.writes
 
 pub returns-clause-writes : goal.returns-clause-writes

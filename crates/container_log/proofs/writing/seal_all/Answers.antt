@@ -4,8 +4,8 @@ use Rattle.container_log.proofs.writing.seal_all.Goals as goal
 
 pub returns-in-Ok-clause-moves : goal.returns-in-Ok-clause-moves
 returns-in-Ok-clause-moves g c = λ among store files distinct may can.
-    moves_together (IsIn among) c.args.slots.now c.args.id c.args.filled.now store files c.requires.many.0 distinct may can _ _ _ c.requires.slots c.in-Ok.ensures.writes
+    moves_together (IsIn among) c.args.slots.now c.args.id c.args.filled.now store files c.requires.each distinct may can _ _ _ c.requires.places c.in-Ok.ensures.writes
 
 pub returns-in-Err-clause-moves : goal.returns-in-Err-clause-moves
 returns-in-Err-clause-moves g c = λ among store files distinct may can.
-    moves_together (IsIn among) c.args.slots.now c.args.id c.args.filled.now store files c.requires.many.0 distinct may can _ _ _ c.requires.slots c.in-Err.ensures.writes
+    moves_together (IsIn among) c.args.slots.now c.args.id c.args.filled.now store files c.requires.each distinct may can _ _ _ c.requires.places c.in-Err.ensures.writes

@@ -13,9 +13,9 @@ returns-in_err-sync_bodies-clause-writes g c =
     passed (λ e. Writes (SealsAll c.args.slots.now c.args.id c.args.filled.now) (AreSealed c.args.slots.now c.args.id c.args.filled.now) e (view c.args.disk.now)
     (view c.sync_bodies.new.disk))
     (λ _. WriteCall) c.from_residual.result c.in_err-sync_bodies.field-0.0 c.from_residual.ensures.1
-    (bodies_broken _ c.args.slots.now c.args.id c.args.filled.now c.requires.slots _ _ c.in_err-sync_bodies.ensures.writes)
+    (bodies_broken _ c.args.slots.now c.args.id c.args.filled.now c.requires.places _ _ c.in_err-sync_bodies.ensures.writes)
 
 pub returns-clause-writes : goal.returns-clause-writes
 returns-clause-writes g c =
-    writes_together _ c.args.slots.now c.args.id c.args.filled.now c.requires.slots _ _ _ _ refl (never_refused c.sync_gates.result) c.in_ok-sync_bodies.ensures.writes
+    writes_together _ c.args.slots.now c.args.id c.args.filled.now c.requires.places _ _ _ _ refl (never_refused c.sync_gates.result) c.in_ok-sync_bodies.ensures.writes
     c.sync_gates.ensures

@@ -3,12 +3,15 @@
 
 use backup_engine::{backup, size_of_format};
 use dd_disk::FileDisk;
-use dd_io::{StdSink, StdSource};
+use dd_io::{Source, StdSink, StdSource};
 use std::env;
 use std::fs::{self, File, OpenOptions};
-use std::io::{self, ErrorKind, Write};
+use std::io::{self, BufReader, ErrorKind, Write};
 use std::process::ExitCode;
 use thiserror::Error;
+
+/// How many bytes are read of standard input at once, where it has as many: a file is given to a session in pieces of 4,096 bytes.
+const READ_AHEAD: usize = 65_536;
 
 /// Why the program ends before a command runs. The texts are lines of the notes.
 #[derive(Clone, Copy, Debug, Error)]
@@ -50,8 +53,10 @@ fn run(rt: &HostRuntime) -> Result<u8, Failure> {
     let (_program, words) = words.split_first().ok_or(Failure::Words)?;
     let (path, command) = words.split_first().ok_or(Failure::Words)?;
     let _held = hold_streams(rt)?;
+    let input = BufReader::with_capacity(rt.alloc(), READ_AHEAD, rt.stdin()).map_err(failure_of)?;
     let mut disk = open_disk(rt, path.as_str(), command)?;
-    Ok(run_command(rt, command, &mut disk))
+    let mut source = StdSource::new(input);
+    Ok(run_command(rt, command, &mut disk, &mut source))
 }
 
 // The words of the command line, the program's name first. Where they can't be had they are faulty.
@@ -128,19 +133,15 @@ fn failure_of(error: io::Error) -> Failure {
     }
 }
 
-fn run_command(rt: &HostRuntime, command: &[String], disk: &mut FileDisk) -> u8 {
-    let mut source = StdSource::new(rt.stdin());
+fn run_command<S: Source>(
+    rt: &HostRuntime,
+    command: &[String],
+    disk: &mut FileDisk,
+    source: &mut S,
+) -> u8 {
     let mut sink = StdSink::new(rt.stdout());
     let mut notes = StdSink::new(rt.stderr());
-    let status = backup(
-        rt,
-        rt.alloc(),
-        command,
-        disk,
-        &mut source,
-        &mut sink,
-        &mut notes,
-    );
+    let status = backup(rt, rt.alloc(), command, disk, source, &mut sink, &mut notes);
     // What the streams hold back is written here: a reply that is lost now is a fault of the sink too.
     if rt.stdout().flush().is_err() && has_replied(command, status) {
         let _written = eprintln!(rt; "fault sink");

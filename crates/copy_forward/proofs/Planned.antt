@@ -136,10 +136,6 @@ module _ (s : Source) (S : (List ℕ → Type 0) → Type 0) where
   stuck_then [] es before mid refusal same stuck = subst (λ (p : Planned). IsStuck s S es p refusal) same stuck
   stuck_then (x ∷ xs) es before mid refusal (next, (first, others)) stuck = inr (next, (first, stuck_then xs es next mid refusal others stuck))
 
--- before the first of them
-pub none_taken : (s : Source) (S : (List ℕ → Type 0) → Type 0) (es : List Entry) (p : Planned) → es ≡ [] → TakesAll s S es p p
-none_taken s S es p none = subst (λ (xs : List Entry). TakesAll s S xs p p) (sym none) refl
-
 split_at : (es : List Entry) (i : ℕ) (d : Entry) → i < length es → es ≡ take i es ++ get_or es i d ∷ drop (suc i) es
 split_at es i d within = sym (take-append-drop i es) ∙ ap (λ (xs : List Entry). take i es ++ xs) (drop-cons es i d within)
 

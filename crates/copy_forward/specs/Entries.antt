@@ -30,11 +30,6 @@ is_copy index kind slot e = is_place_found (finite.get index (entry_key kind e))
 abbrev pub IsLiveCopy : PlaceMap → LiveKeys → Kind → ℕ → Entry → Type 0
 IsLiveCopy index live kind slot e = (is_copy index kind slot e ≡ true) × IsLiveAt live (entry_key kind e) (place_of slot e)
 
--- some entry is a live copy
-abbrev pub HasLiveCopy : PlaceMap → LiveKeys → Kind → ℕ → List Entry → Type 0
-HasLiveCopy index live kind slot [] = ⊥
-HasLiveCopy index live kind slot (e ∷ es) = IsLiveCopy index live kind slot e ⊎ HasLiveCopy index live kind slot es
-
 -- an entry isn't
 abbrev pub IsDead : PlaceMap → LiveKeys → Kind → ℕ → Entry → Type 0
 IsDead index live kind slot e = IsLiveCopy index live kind slot e → ⊥

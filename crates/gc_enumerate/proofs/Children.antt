@@ -12,7 +12,7 @@ use Rattle.std.specs.Prelude.{Option}
 use Rattle.gc_enumerate.specs.declared.fault.ScanFault.{ScanFault}
 use Rattle.gc_enumerate.specs.declared.fault.ScanFault.TheVariants.{DiskRead, Corrupt, Missing, Damaged, Memory}
 use Rattle.gc_enumerate.specs.declared.layer.KeyPlace.{KeyPlace}
-use Rattle.gc_enumerate.specs.Copies.{IsPlaceOf, CountsReads}
+use Rattle.gc_enumerate.specs.Copies.{IsPlaceOf}
 use Rattle.gc_enumerate.specs.Scanning.{ArePlaced, ComesTo, IsChildFault, IsMisplaced, IsPlacedAt, IsUnplaced, MisplacesChild, child_key, keys_of}
 
 -- ---- a node of a level
@@ -25,12 +25,6 @@ pub of_level : {E : Type 0} (result : Result Contents E) (bytes : List ℕ) (lev
     → IfOk result (λ n. IsNode n × (bytes ≡ spelling n) × (n.level ≡ level))
 of_level (Ok n) bytes level first found = (found.0, found.1, sym (level_first n) ∙ ap (byte_at 0) (sym found.1) ∙ first)
 of_level (Err e) bytes level first found = tt
-
--- ---- counts
-
--- a count that stood still before is that of the last call
-pub counted : {T : Type 0} (result : Result T ScanFault) (first before now : ℕ) → before ≡ first → CountsReads result before now → CountsReads result first now
-counted result first before now same counts = subst (λ (n : ℕ). CountsReads result n now) same counts
 
 -- ---- children
 

@@ -14,7 +14,7 @@ use Rattle.gc_enumerate.specs.declared.fault.ScanFault.{ScanFault}
 use Rattle.gc_enumerate.specs.declared.fault.ScanFault.TheVariants.{DiskRead, Corrupt, Missing, Damaged, Memory}
 use Rattle.gc_enumerate.specs.declared.layer.KeyPlace.{KeyPlace}
 use Rattle.gc_enumerate.specs.Faults.{IsCorrupt}
-use Rattle.gc_enumerate.specs.Scanning.{ArePlaced, FindsChildren, HaveNodes, IsAsked, IsChildFault, IsDecided, IsEntryFault, IsNoNode, IsNodeOf, IsPlacedAt, IsScanFault, IsStuck, IsToScan, IsUnread, LacksChild, MisplacesChild, Scan, child_keys, keys_of, place_in}
+use Rattle.gc_enumerate.specs.Scanning.{ArePlaced, FindsChildren, HaveNodes, IsAsked, IsChildFault, IsDecided, IsEntryFault, IsNoNode, IsNodeOf, IsPlacedAt, IsScanFault, IsStuck, IsToScan, LacksChild, MisplacesChild, Scan, child_keys, keys_of, place_in}
 
 -- ---- one entry
 
@@ -80,14 +80,6 @@ module _ (s : Scan) (showed showed' : Place → List ℕ → Type 0) (wider : (p
     at_is = cause.at_is;
     wrong_is = cause.wrong_is;
   }
-
-  -- why an entry's node is not given is why the entry is not scanned
-  pub unread : (damaged : ℕ → Why → Type 0) (e : Entry) (fault : ScanFault) → IsToScan s e → IsUnread s.layer showed e fault → IsEntryFault s showed' damaged e fault
-  unread damaged e Memory to_scan cause = tt
-  unread damaged e DiskRead to_scan cause = was_asked s e to_scan
-  unread damaged e (Corrupt slot offset count want got) to_scan cause = (to_scan, corrupt_wider e slot offset count want got cause)
-  unread damaged e (Missing key) to_scan cause = absurd cause
-  unread damaged e (Damaged at why) to_scan cause = inr (inl (to_scan, no_node_wider e at why cause))
 
   module _ (damaged damaged' : ℕ → Why → Type 0) (wider_still : (at : ℕ) (why : Why) → damaged at why → damaged' at why) where
     pub entry_fault_wider : (e : Entry) (fault : ScanFault) → IsEntryFault s showed damaged e fault → IsEntryFault s showed' damaged' e fault

@@ -6,7 +6,7 @@ use Rattle.base_model.specs.Frames.{SameOutside}
 use Rattle.base_model.proofs.Frames.{byte_before, byte_after}
 use Rattle.store_model.proofs.Freed.{encodes_freed, same_gate, same_more, same_none, unfreed_same}
 use Rattle.recovery.specs.Making.{AreClear, ImagesFreed, Stands, IsSteady}
-use Rattle.recovery.proofs.Spare.{least_given, none_given, enough_given, ready_after, all_freed_more, frees_more}
+use Rattle.recovery.proofs.Spare.{least_given, none_given, ready_after, all_freed_more, frees_more}
 
 -- ---- one image
 
@@ -192,14 +192,6 @@ module _ (size : ℕ) (store : Store) (visited : List Top) (ids : List ℕ) (use
 
 module _ (size : ℕ) (store : Store) (visited : List Top) (ids : List ℕ) (used : List Bool) (free : ℕ) (old new : DiskView)
     (stands : Stands size store visited ids used free old new) where
-  pub given_enough : RESERVE ≤ free → GivesBack store visited old new
-  given_enough enough = record {
-    freed = stands.freed;
-    are_freed = stands.are_freed;
-    enough = enough_given size (with_all_freed stands.freed store) visited ids used free
-        stands.ready enough;
-  }
-
   pub given_none : IsLeastOf ids used (length ids) None → GivesBack store visited old new
   given_none none = record {
     freed = stands.freed;

@@ -1,15 +1,13 @@
 -- An inspection of a disk, part by part.
-use Rattle.recovery.proofs.Prelude.{ℕ, ◌+◌, ◌-◌, ◌^◌, ◌<◌, length, Some, List, [], Result, Ok, Err, OnOk, None, refl, sym, subst, ◌∙◌, inl, inr, Done, Reads, ending_of, Shows, DiskView, IsLater, OnlyReads, reads_here, always, shown_content, since, until, weaker, Found, nothing, and_then, cell_with, Counts, Damage, Tally, Refusal, image_found, nothing_counted, AreCounted, IsFormatRefusal}
+use Rattle.recovery.proofs.Prelude.{ℕ, ◌+◌, ◌-◌, ◌^◌, ◌<◌, length, Some, List, [], Result, Ok, Err, OnOk, None, refl, subst, ◌∙◌, inl, inr, Shows, DiskView, IsLater, OnlyReads, reads_here, always, shown_content, since, until, weaker, Found, nothing, and_then, cell_with, Counts, Damage, Tally, Refusal, image_found, nothing_counted, AreCounted, IsFormatRefusal}
 use Rattle.std.proofs.Common.{◌≡◌}
 use Rattle.container_log.specs.Inspecting.{slots_found}
-use Rattle.dd_disk.proofs.Ended.{reads_on}
 use Rattle.dd_io.specs.Flow.{SinkView}
-use Rattle.inspection.specs.Handing.{Finds, Reports, Stops, StopsAmong, blames as halts}
+use Rattle.inspection.specs.Handing.{Finds, Reports, Stops, StopsAmong}
 use Rattle.inspection.specs.declared.halt.Halt.{Halt}
-use Rattle.inspection.specs.declared.halt.Halt.TheVariants as halt_of
 use Rattle.inspection.proofs.Steps.{finds_first, finds_on, finds_shown, reports_nothing, stops_first, stops_on, stops_shown, then_nothing}
 use Rattle.journal_cells.specs.Inspecting.{journal_found}
-use Rattle.recovery.specs.Inspecting.{IsInspected, IsUninspected, ended_by, blamed}
+use Rattle.recovery.specs.Inspecting.{IsInspected, IsUninspected, ended_by}
 use Rattle.recovery.specs.Opening.{IsSized}
 use Rattle.recovery.specs.declared.inspecting.Uninspected.{Uninspected}
 use Rattle.recovery.specs.declared.inspecting.Uninspected.TheVariants.{Refused}
@@ -92,14 +90,3 @@ module _ (line : Damage → List ℕ) (slots : ℕ) (old mid new : DiskView) (si
     ending_is = is;
     stops = record { damages = stops.damages; shown = since old mid new before stops.shown; written = stops.written };
   })
-
-blames_so : (halt : Halt) → halts halt ≡ blamed (ended_by halt)
-blames_so halt_of.Memory = refl
-blames_so halt_of.DiskRead = refl
-blames_so halt_of.Untaken = refl
-
-pub reads_cut_short : (halt : Halt) (ending : Uninspected) (old mid new : DiskView) → ending ≡ ended_by halt → Reads Done old mid → Reads (ending_of (halts halt)) mid new →
-    Reads (ending_of (blamed ending)) old new
-reads_cut_short halt ending old mid new is first second =
-    reads_on (ending_of (blamed ending)) old mid new first
-    (subst (λ (u : Uninspected). Reads (ending_of (blamed u)) mid new) (sym is) (subst (λ b. Reads (ending_of b) mid new) (blames_so halt) second))

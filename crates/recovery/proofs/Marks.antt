@@ -1,10 +1,9 @@
 -- Marks, as the trees of names are walked.
-use Rattle.recovery.proofs.Prelude.{◌⊎◌, inl, inr, ℕ, zero, suc, ◌+◌, ◌*◌, ◌<◌, ◌≤◌, Bool, true, false, List, [], ◌∷◌, ◌++◌, length, map, take, drop, get_or, slice_set, Option, Some, None, Result, Ok, refl, sym, ◌∙◌, ap, subst, arith, slice_cmp, Contains, nat_cmp, eqb_tells, length-map, map-append, Contains-append_left, Place, PlaceMap, HeaderValue, Done, Reads, DiskView, OnlyReads, reads_none, size_of, Top, start_of, ListedName, NamedRoot, listed_value, Refusal, Memory, ByteSet, some_same, fails, top_of, HasPlace, IsVisitRefusal, Visits, VisitsRoots, VisitsTo, steps_ahead, WasRead, top_key, roots_wider, IsMarked, MarksAll, IsStuckAmong, IsMarkRefusal, IsHeld, AllHeld, WhereHeld, IsMarkingAll, Walks, WalksRoots, ahead_of, walk_state, HasNode, NodeSet, NotesNext, WasNoted, node_key}
+use Rattle.recovery.proofs.Prelude.{◌⊎◌, inl, inr, ℕ, zero, suc, ◌+◌, ◌<◌, ◌≤◌, Bool, true, false, List, [], ◌∷◌, ◌++◌, length, map, take, drop, get_or, slice_set, Option, Some, None, Result, Ok, refl, sym, ◌∙◌, ap, subst, arith, slice_cmp, Contains, nat_cmp, eqb_tells, length-map, map-append, Contains-append_left, Place, PlaceMap, HeaderValue, Done, Reads, DiskView, OnlyReads, reads_none, size_of, Top, start_of, ListedName, NamedRoot, listed_value, Refusal, Memory, ByteSet, some_same, fails, top_of, HasPlace, IsVisitRefusal, Visits, VisitsRoots, VisitsTo, WasRead, top_key, roots_wider, IsMarked, MarksAll, IsStuckAmong, IsMarkRefusal, IsHeld, AllHeld, WhereHeld, IsMarkingAll, Walks, WalksRoots, ahead_of, walk_state, HasNode, NodeSet, NotesNext, WasNoted, node_key}
 use Rattle.std.proofs.Common.{◌≡◌, IsTrue}
 use Rattle.std.specs.FinMap as finite
 use Rattle.std.proofs.lemmas.List.{append-nil, append_assoc, drop_more, get_or-set_other, get_or-set_same, length-set, take-append-drop, take_more}
 use Rattle.std.proofs.lemmas.List.Elements.{Contains-append_cases, Contains-push, Contains-push_cases}
-use Rattle.std.proofs.lemmas.List.Sums.{sum_by-cons}
 use Rattle.dd_disk.proofs.Ended.{reads_on}
 use Rattle.merkle_file.specs.Tree.{of_segment, root_of}
 use Rattle.segment_index.specs.Places.{IsPlace}
@@ -408,11 +407,6 @@ held_past counts held image nodes [] was is = absurd was
 held_past counts held image nodes (u ∷ us) was ([], is) = absurd (let wrong : u ∷ us ≡ [] = is.trees.tops in cc)
 held_past counts held image nodes (u ∷ us) was (t ∷ ts, is) =
     (ts, record { trees = record { tops = tail_is u (root_of of_segment t) us (map (root_of of_segment) ts) is.trees.tops; each = is.trees.each.1 }; each = is.each.1 })
-
--- fewer steps are ahead then
-pub falls_past : (nodes : NodeSet) (ahead : List Top) → WasNoted nodes ahead → steps_ahead (drop 1 ahead) < steps_ahead ahead
-falls_past nodes [] was = absurd was
-falls_past nodes (u ∷ us) was = omega (arith, sum_by-cons (λ (t : Top). t.length * (t.level + 1) + 1) u us)
 
 -- ---- all trees
 

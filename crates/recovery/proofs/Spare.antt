@@ -79,10 +79,6 @@ module _ (size : ℕ) (store : Store) (visited : List Top) (ids : List ℕ) (use
   pub none_given : IsLeastOf ids used (length ids) None → IsEnough (IsVisited visited) store
   none_given none = inr (λ slot spare. let there = spare_in slot spare.header spare.holds spare.none in none slot there.within there)
 
-  -- two slots are closed
-  pub enough_given : RESERVE ≤ free → IsEnough (IsVisited visited) store
-  enough_given enough = inl (subst (λ (n : ℕ). RESERVE ≤ n) ready.free_is enough)
-
   -- once it is closed
   pub ready_after : (slot : ℕ) → IsLeastSpare (IsVisited visited) store slot → IsReady size (with_freed slot store) visited (slice_set ids slot 0) used (free + 1)
   ready_after slot spare = record {

@@ -73,11 +73,6 @@ opens_passed store (Err f) r passed is = by_refusal f (subst (λ (x : Refusal). 
 
 -- ---- why a disk was not opened
 
-pub begin_refusal : (shown : (List ℕ → Type 0) → Type 0) (size : ℕ) (r : Refusal) → IsBeginRefusal size r → IsOpenRefusal shown size r
-begin_refusal shown size DiskWrite is = tt
-begin_refusal shown size (WrongSize want got) is = (is.0, inl (is.1, is.2))
-begin_refusal shown size _ is = absurd is
-
 -- the journal with its own last sequence number
 pub own_last : (shown : (List ℕ → Type 0) → Type 0) (journal : JournalValue) (names : NameMap) (last : ℕ) → IsScanned shown journal names last →
     IsScanned shown journal names journal.last

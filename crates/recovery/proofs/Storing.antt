@@ -4,7 +4,7 @@ use Rattle.std.proofs.Common.{◌≡◌, option_map}
 use Rattle.dd_disk.specs.Ending.{Ending, Refused, Unread}
 use Rattle.dd_disk.specs.Writes.{Written}
 use Rattle.dd_disk.specs.Moves.{Acts, Ends}
-use Rattle.dd_disk.proofs.Later.{reads_on, durable_reads}
+use Rattle.dd_disk.proofs.Later.{reads_on}
 use Rattle.dd_disk.proofs.Writes.{IsUnrefused, writes_on}
 use Rattle.recovery.specs.Formatting.{IsLeftByFormat, laid_out}
 use Rattle.recovery.proofs.Formatted.{is_formatted, blank_or_formatted}
@@ -159,13 +159,3 @@ module _ (slots : ℕ) where
       ends = ends_on e writes.written;
       faults_are = counts_on e old.faults mid.faults new.faults reads.faults_are writes.faults_are;
     }
-
--- calls that only read
-reads_end : (e : Ending) (old new : DiskView) → OnlyReads old new → Ends OnlyReads e old new
-reads_end Done old new reads = λ durable. durable_reads old new durable reads
-reads_end Refused old new reads = reads
-reads_end Unread old new reads = reads
-reads_end Broken old new reads = tt
-
-pub acts_reads : (e : Ending) (old new : DiskView) → Reads e old new → Acts e old new
-acts_reads e old new reads = record { later = reads.only.later; ends = reads_end e old new reads.only; faults_are = reads.faults_are }

@@ -24,9 +24,6 @@ visited_or t ts key is = Contains-append_right (top_key t ∷ []) (map top_key t
 pub visited_left : (xs ys : List Top) (key : List ℕ) → IsVisited xs key → IsVisited (xs ++ ys) key
 visited_left xs ys key is = subst (λ (ks : List (List ℕ)). Contains ks key) (sym (map-append top_key xs ys)) (Contains-append_left (map top_key xs) (map top_key ys) key is)
 
-pub visited_right : (xs ys : List Top) (key : List ℕ) → IsVisited ys key → IsVisited (xs ++ ys) key
-visited_right xs ys key is = subst (λ (ks : List (List ℕ)). Contains ks key) (sym (map-append top_key xs ys)) (Contains-append_right (map top_key xs) (map top_key ys) key is)
-
 append_below : (level : ℕ) (xs ys : List Top) → AreBelow level xs → AreBelow level ys → AreBelow level (xs ++ ys)
 append_below level [] ys first second = second
 append_below level (x ∷ xs) ys first second = (first.0, append_below level xs ys first.1 second)

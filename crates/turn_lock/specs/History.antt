@@ -1,4 +1,4 @@
--- Turns that were made, the first of them first.
+-- Turns that were made, the first of them first (docs/MODEL.md, 'Turns of threads').
 use Rattle.std.specs.Prelude.{◌≡◌, ℕ, ◌+◌, ◌==◌, nat_lt, if◌then◌else◌, List, [], ◌∷◌, ◌++◌}
 use Rattle.turn_lock.specs.declared.history.Turn.{Turn}
 

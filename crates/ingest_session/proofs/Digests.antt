@@ -9,11 +9,6 @@ kept_are_few [] bs h = omega arith
 kept_are_few (d ∷ ds) [] h = absurd h
 kept_are_few (d ∷ ds) (b ∷ bs) h = let few = kept_are_few ds bs h.1 in omega arith
 
-pub kept_go_first : (ds : List (List ℕ)) (bs : List (Vec ℕ)) → AreDigests ds bs → AreDigests (drop 1 ds) (drop 1 bs)
-kept_go_first [] bs h = tt
-kept_go_first (d ∷ ds) [] h = absurd h
-kept_go_first (d ∷ ds) (b ∷ bs) h = h.1
-
 pub kept_stay : (ds : List (List ℕ)) (bs more : List (Vec ℕ)) → AreDigests ds bs → AreDigests ds (bs ++ more)
 kept_stay [] bs more h = tt
 kept_stay (d ∷ ds) [] more h = absurd h

@@ -29,7 +29,7 @@ fn main(rt: HostRuntime) -> io::Result<ExitCode> {
         let name = name?;
         let text = fs::read_to_string(&rt, name.as_str())?;
         println!(rt; "\n# {name}")?;
-        suite.run(&rt, text.as_str())?;
+        suite.run(&rt, &rt, text.as_str())?;
     }
     println!(rt; "\n{} rows, {} failed", suite.rows, suite.failed)?;
     Ok(ExitCode::from(if suite.failed == 0 { 0 } else { 1 }))

@@ -8,6 +8,7 @@ use dd_disk::{Asked, BlindDisk, FileDisk, Fill, MemDisk};
 use std::alloc::Global;
 use std::fs::File;
 use std::io;
+use std::thread::Threads;
 
 /// What stands after a stop where a write was not synced, and how a transcript calls it: what was there, what was written,
 /// and the gates of each kind of cell.
@@ -126,37 +127,44 @@ impl Stage {
     pub(crate) fn answer(
         &mut self,
         rt: &HostRuntime,
+        threads: &(impl Threads + Sync),
         over: &str,
         chain: &str,
     ) -> Result<String, Fault> {
         let alloc = rt.alloc();
         let words = words_of(alloc, over)?;
         match words.as_slice() {
-            [] => answers_of(rt, &mut self.disk, chain),
+            [] => answers_of(rt, threads, &mut self.disk, chain),
             ["sealed", at, edits @ ..] => {
                 let mut bytes = self.edited(alloc, number(at)?, edits)?;
                 seal(&mut bytes, number(at)?)?;
-                answers_of(rt, &mut disk_of(alloc, bytes), chain)
+                answers_of(rt, threads, &mut disk_of(alloc, bytes), chain)
             }
             ["unsealed", at, edits @ ..] => {
                 let bytes = self.edited(alloc, number(at)?, edits)?;
-                answers_of(rt, &mut disk_of(alloc, bytes), chain)
+                answers_of(rt, threads, &mut disk_of(alloc, bytes), chain)
             }
             ["fail", calls @ ..] => {
                 let bytes = self.disk.bytes().to_vec(alloc)?;
                 answers_of(
                     rt,
+                    threads,
                     &mut MemDisk::new(bytes, numbers_of(alloc, calls)?),
                     chain,
                 )
             }
             ["lie", lies @ ..] => {
                 let bytes = self.disk.bytes().to_vec(alloc)?;
-                answers_of(rt, &mut BlindDisk::new(bytes, lies_of(alloc, lies)?), chain)
+                answers_of(
+                    rt,
+                    threads,
+                    &mut BlindDisk::new(bytes, lies_of(alloc, lies)?),
+                    chain,
+                )
             }
-            ["turn", call, name] => self.after_turn(rt, number(call)?, name, chain),
-            ["crash", call] => self.after_stops(rt, number(call)?, chain),
-            ["file", length, size] => over_file(rt, number(length)?, number(size)?, chain),
+            ["turn", call, name] => self.after_turn(rt, threads, number(call)?, name, chain),
+            ["crash", call] => self.after_stops(rt, threads, number(call)?, chain),
+            ["file", length, size] => over_file(rt, threads, number(length)?, number(size)?, chain),
             _ => Err(Fault::Line),
         }
     }
@@ -165,6 +173,7 @@ impl Stage {
     fn after_turn(
         &self,
         rt: &HostRuntime,
+        threads: &(impl Threads + Sync),
         call: u64,
         name: &str,
         chain: &str,
@@ -173,7 +182,7 @@ impl Stage {
         let image = self.saved(name)?;
         let bytes = self.disk.bytes().to_vec(alloc)?;
         let mut disk = TurnedDisk::new(bytes, image.clone()?, call);
-        let answers = answers_of(rt, &mut disk, chain)?;
+        let answers = answers_of(rt, threads, &mut disk, chain)?;
         let mut text = Text::new(alloc);
         text.add(answers.as_str());
         text.add(if disk.has(&image) {
@@ -204,12 +213,18 @@ impl Stage {
     }
 
     // What a chain answers over each image that a stop inside a call of the disk leaves.
-    fn after_stops(&self, rt: &HostRuntime, call: u64, chain: &str) -> Result<String, Fault> {
+    fn after_stops(
+        &self,
+        rt: &HostRuntime,
+        threads: &(impl Threads + Sync),
+        call: u64,
+        chain: &str,
+    ) -> Result<String, Fault> {
         let alloc = rt.alloc();
         let mut answers = Vec::new(alloc);
         for (_name, fill) in FILLS {
             let image = self.image_after(alloc, call, fill)?;
-            answers.push(answers_of(rt, &mut disk_of(alloc, image), chain)?)?;
+            answers.push(answers_of(rt, threads, &mut disk_of(alloc, image), chain)?)?;
         }
         Ok(by_fill(alloc, &answers).whole()?)
     }
@@ -318,11 +333,17 @@ fn add_range(text: &mut Text, word: &str, at: u64, count: u64) {
 }
 
 // What a chain answers over a file of so many zeros, as a disk of this size.
-fn over_file(rt: &HostRuntime, length: u64, size: u64, chain: &str) -> Result<String, Fault> {
+fn over_file(
+    rt: &HostRuntime,
+    threads: &(impl Threads + Sync),
+    length: u64,
+    size: u64,
+    chain: &str,
+) -> Result<String, Fault> {
     let Ok(file) = file_of(rt, length) else {
         return Err(Fault::File);
     };
-    answers_of(rt, &mut FileDisk::new(file, size), chain)
+    answers_of(rt, threads, &mut FileDisk::new(file, size), chain)
 }
 
 fn file_of(rt: &HostRuntime, length: u64) -> io::Result<File> {

@@ -4,6 +4,7 @@ use crate::stage::Stage;
 use crate::words::{Fault, number};
 use std::alloc::{AllocError, Global};
 use std::io;
+use std::thread::Threads;
 
 /// A text, and the mark `{NAME}` that stands for it.
 #[derive(Drop)]
@@ -32,23 +33,34 @@ impl Suite {
         }
     }
 
-    /// Goes through a transcript. A line that begins with a space goes on with the one before it.
-    pub(crate) fn run(&mut self, rt: &HostRuntime, text: &str) -> io::Result<()> {
+    /// Goes through a transcript. A line that begins with a space goes on with the one before it. `threads` is the runtime too, which
+    /// starts threads only as a parameter of such a type.
+    pub(crate) fn run(
+        &mut self,
+        rt: &HostRuntime,
+        threads: &(impl Threads + Sync),
+        text: &str,
+    ) -> io::Result<()> {
         let mut line = String::new(rt.alloc());
         for next in text.lines() {
             if next.starts_with(' ') {
                 line.push_str(" ")?;
                 line.push_str(next.trim())?;
             } else {
-                self.run_line(rt, line.as_str())?;
+                self.run_line(rt, threads, line.as_str())?;
                 line.clear();
                 line.push_str(next)?;
             }
         }
-        self.run_line(rt, line.as_str())
+        self.run_line(rt, threads, line.as_str())
     }
 
-    fn run_line(&mut self, rt: &HostRuntime, line: &str) -> io::Result<()> {
+    fn run_line(
+        &mut self,
+        rt: &HostRuntime,
+        threads: &(impl Threads + Sync),
+        line: &str,
+    ) -> io::Result<()> {
         if let Some(title) = line.strip_prefix("## ") {
             return println!(rt; "\n{title}");
         }
@@ -56,16 +68,21 @@ impl Suite {
             return Ok(());
         }
         let line = expanded(rt.alloc(), line, &self.names)?;
-        self.follow(rt, line.as_str())
+        self.follow(rt, threads, line.as_str())
     }
 
     // Does what a line says: a name, a row, or what is to be done before rows.
-    fn follow(&mut self, rt: &HostRuntime, line: &str) -> io::Result<()> {
+    fn follow(
+        &mut self,
+        rt: &HostRuntime,
+        threads: &(impl Threads + Sync),
+        line: &str,
+    ) -> io::Result<()> {
         if let Some(words) = line.strip_prefix("let ") {
             return self.follow_name(rt, line, words);
         }
         if let Some((row, wanted)) = line.split_once(" => ") {
-            return self.run_rows(rt, row, wanted);
+            return self.run_rows(rt, threads, row, wanted);
         }
         match self.stage.prepare(rt.alloc(), line) {
             Ok(()) => Ok(()),
@@ -104,15 +121,21 @@ impl Suite {
     }
 
     // A row, or with `many FROM TO` before it a row for each number, which stands where `#` is.
-    fn run_rows(&mut self, rt: &HostRuntime, row: &str, wanted: &str) -> io::Result<()> {
+    fn run_rows(
+        &mut self,
+        rt: &HostRuntime,
+        threads: &(impl Threads + Sync),
+        row: &str,
+        wanted: &str,
+    ) -> io::Result<()> {
         let failed = self.failed;
         match span_of(row) {
             Some((from, to, each)) => {
                 for number in from..=to {
-                    self.run_numbered(rt, number, each, wanted)?;
+                    self.run_numbered(rt, threads, number, each, wanted)?;
                 }
             }
-            None => self.run_row(rt, row, wanted)?,
+            None => self.run_row(rt, threads, row, wanted)?,
         }
         if self.failed == failed {
             println!(rt; "ok {}", front_of(row))?;
@@ -123,6 +146,7 @@ impl Suite {
     fn run_numbered(
         &mut self,
         rt: &HostRuntime,
+        threads: &(impl Threads + Sync),
         number: u64,
         row: &str,
         wanted: &str,
@@ -131,14 +155,20 @@ impl Suite {
         let digits = format!(in alloc; "{number}")?;
         let row = row.replace(alloc, "#", digits.as_str())?;
         let wanted = wanted.replace(alloc, "#", digits.as_str())?;
-        self.run_row(rt, row.as_str(), wanted.as_str())
+        self.run_row(rt, threads, row.as_str(), wanted.as_str())
     }
 
     // Runs a row. One of stops is a row for each of the seven fills.
-    fn run_row(&mut self, rt: &HostRuntime, row: &str, wanted: &str) -> io::Result<()> {
+    fn run_row(
+        &mut self,
+        rt: &HostRuntime,
+        threads: &(impl Threads + Sync),
+        row: &str,
+        wanted: &str,
+    ) -> io::Result<()> {
         let count = if row.starts_with("crash") { 7 } else { 1 };
         self.rows = self.rows.saturating_add(count);
-        let found = match self.answer(rt, row) {
+        let found = match self.answer(rt, threads, row) {
             Ok(found) => found,
             Err(fault) => fault.text().to_string(rt.alloc())?,
         };
@@ -149,12 +179,17 @@ impl Suite {
         Ok(())
     }
 
-    fn answer(&mut self, rt: &HostRuntime, row: &str) -> Result<String, Fault> {
+    fn answer(
+        &mut self,
+        rt: &HostRuntime,
+        threads: &(impl Threads + Sync),
+        row: &str,
+    ) -> Result<String, Fault> {
         if let Some(call) = row.strip_prefix("call ") {
             return self.stage.call_text(rt.alloc(), number(call)?);
         }
         match row.split_once('$') {
-            Some((over, chain)) => self.stage.answer(rt, over, chain),
+            Some((over, chain)) => self.stage.answer(rt, threads, over, chain),
             None => codec_answer(rt.alloc(), row),
         }
     }

@@ -8,6 +8,7 @@ use std::env;
 use std::fs::{self, File, OpenOptions};
 use std::io::{self, ErrorKind, Write};
 use std::process::ExitCode;
+use std::thread::Threads;
 use thiserror::Error;
 
 /// Why the program ends before a command runs. The texts are lines of the notes.
@@ -34,7 +35,7 @@ impl Failure {
 }
 
 fn main(rt: HostRuntime) -> ExitCode {
-    let status = match run(&rt) {
+    let status = match run(&rt, &rt) {
         Ok(status) => status,
         Err(failure) => {
             // A failure of standard error changes no status.
@@ -45,13 +46,14 @@ fn main(rt: HostRuntime) -> ExitCode {
     ExitCode::from(status)
 }
 
-fn run(rt: &HostRuntime) -> Result<u8, Failure> {
+// `threads` is the runtime too, which may start threads only as a parameter of such a type.
+fn run<R: Threads + Sync>(rt: &HostRuntime, threads: &R) -> Result<u8, Failure> {
     let words = read_words(rt)?;
     let (_program, words) = words.split_first().ok_or(Failure::Words)?;
     let (path, command) = words.split_first().ok_or(Failure::Words)?;
     let _held = hold_streams(rt)?;
     let mut disk = open_disk(rt, path.as_str(), command)?;
-    Ok(run_command(rt, command, &mut disk))
+    Ok(run_command(rt, threads, command, &mut disk))
 }
 
 // The words of the command line, the program's name first. Where they can't be had they are faulty.
@@ -128,12 +130,17 @@ fn failure_of(error: io::Error) -> Failure {
     }
 }
 
-fn run_command(rt: &HostRuntime, command: &[String], disk: &mut FileDisk) -> u8 {
+fn run_command<R: Threads + Sync>(
+    rt: &HostRuntime,
+    threads: &R,
+    command: &[String],
+    disk: &mut FileDisk,
+) -> u8 {
     let mut source = StdSource::new(rt.stdin());
     let mut sink = StdSink::new(rt.stdout());
     let mut notes = StdSink::new(rt.stderr());
     let status = backup(
-        rt,
+        threads,
         rt.alloc(),
         command,
         disk,

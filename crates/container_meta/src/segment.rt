@@ -44,11 +44,23 @@ impl Seg {
     pub fn leaf(alloc: Global, bytes: &[u8]) -> Result<Seg, AllocError>
         ensures { IfOk result (λ s. s ≡ record { kind = Kind.Leaf; segment = record { level = 0; bytes = bytes.now } }) }
     {
+        Seg::leaf_with_digest(alloc, bytes, digest_of(bytes))
+    }
+
+    /// The same, where the SHA-256 of the bytes is known: it is not taken again.
+    pub fn leaf_with_digest(
+        alloc: Global,
+        bytes: &[u8],
+        digest: [u8; 32],
+    ) -> Result<Seg, AllocError>
+        requires { digest ≡ sha256 bytes.now }
+        ensures { IfOk result (λ s. s ≡ record { kind = Kind.Leaf; segment = record { level = 0; bytes = bytes.now } }) }
+    {
         Ok(Seg {
             kind: Kind::Leaf,
             level: 0,
             bytes: Vec::from_slice(alloc, bytes)?,
-            digest: digest_of(bytes),
+            digest,
         })
     }
 

@@ -1,14 +1,21 @@
 -- The builder gets the first segment of the queue, and is ended after the last.
-use Rattle.ingest_session.proofs.Prelude.{◌≡◌, ◌∙◌, ℕ, Bool, true, false, List, [], ◌∷◌, drop, length, Some, IsSome, refl, sym, ap, subst, KindSegment, Top, of_segment, Progress, BuildsFront, Finishes, IsAdvanced, IsClosing, front_of, SessionState, is_last, leaf_segment, rest_after}
+use Rattle.ingest_session.proofs.Prelude.{◌≡◌, ℕ, Bool, true, false, List, [], ◌∷◌, length, Some, IsSome, refl, sym, ap, subst, KindSegment, Top, of_segment, Progress, BuildsFront, Finishes, IsAdvanced, IsClosing, front_of, SessionState, is_last, leaf_segment, rest_after}
 use Rattle.std.proofs.Common.{Option, None}
 use Rattle.ingest_session.specs.Moving.{Builds}
 
-pub is_advanced : (s : SessionState) (x : List ℕ) (seg : KindSegment) (b : Progress) → s.ahead ≡ None → s.queue ≡ x ∷ drop 1 s.queue →
-    seg ≡ leaf_segment x → Builds (of_segment x) s.built b → IsAdvanced s (record s { ahead = Some seg; built = b })
-is_advanced s x seg b none first is builds = record {
+builds_front : (queue : List (List ℕ)) (seg : KindSegment) (old new : Progress) → front_of queue ≡ Some seg →
+    Builds (of_segment seg.segment.bytes) old new → BuildsFront queue old new
+builds_front [] seg old new is builds = absurd (cc)
+builds_front (x ∷ xs) seg old new is builds =
+    let same : leaf_segment x ≡ seg = cc in
+    subst (λ (bytes : List ℕ). Builds (of_segment bytes) old new) (sym (ap (λ s. s.segment.bytes) same)) builds
+
+pub is_advanced : (s : SessionState) (seg : KindSegment) (b : Progress) → s.ahead ≡ None → front_of s.queue ≡ Some seg →
+    Builds (of_segment seg.segment.bytes) s.built b → IsAdvanced s (record s { ahead = Some seg; built = b })
+is_advanced s seg b none is builds = record {
   none = none;
-  ahead = ap Some is ∙ sym (ap front_of first);
-  builds = subst (λ (q : List (List ℕ)). BuildsFront q s.built b) (sym first) builds;
+  ahead = sym is;
+  builds = builds_front s.queue seg s.built b is builds;
   others = refl;
 }
 

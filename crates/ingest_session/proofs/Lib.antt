@@ -1,3 +1,4 @@
+pub mod Digests
 pub mod Lists
 pub mod InLine
 mod Prelude

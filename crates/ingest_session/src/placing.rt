@@ -4,7 +4,6 @@ ghost use Rattle.std.specs.Prelude.{◌≡◌, ◌<◌, ◌≤◌, true, false, 
 use crate::line::{LONG_LINE, line_up};
 use crate::session::Session;
 use actor_parts::node_seg;
-use container_meta::Seg;
 use merkle_file::Child;
 use std::alloc::AllocError;
 
@@ -34,7 +33,7 @@ impl Session {
         ensures ok { OnOk result (IsAdvanced self.old self.new) }
         ensures err { OnErr result (self.new ≡ self.old) }
     {
-        let seg = Seg::leaf(self.alloc, self.queue.front())?;
+        let seg = self.queue.first(self.alloc)?;
         let child = Child {
             digest: seg.digest(),
             length: seg.bytes().len() as u64,

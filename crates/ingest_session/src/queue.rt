@@ -1,12 +1,16 @@
 //! The segments of a session that wait for their turn.
-ghost use Rattle.std.specs.Prelude.{◌≡◌, ◌+◌, ◌<◌, ◌≤◌, [], ◌∷◌, ◌++◌, IfOk, drop, length, map, vec_len, vec_capacity};
+ghost use Rattle.std.specs.Prelude.{◌≡◌, ◌+◌, ◌<◌, ◌≤◌, IsTrue, Some, [], ◌∷◌, ◌++◌, IfOk, drop, length, map, vec_len, vec_capacity};
 ghost use Rattle.std.specs.List.{AllByRecursion};
 ghost use Rattle.ingest_session.specs.Buffers.{IsBuffer, AreSpare};
+ghost use Rattle.ingest_session.specs.Moving.{front_of};
 
+use container_meta::Seg;
+use digests::digests;
 use disk_format::MOST_SEGMENT;
 use std::alloc::{AllocError, Global};
 use std::collections::VecDeque;
 use std::marker::Model;
+use std::thread::Threads;
 
 /// How many segments wait at most while the file goes on.
 pub const QUEUE: usize = 64;
@@ -15,12 +19,16 @@ pub(crate) const BUFFERS: usize = 65;
 /// How many segments wait at most before a caller gives a piece of up to 4,096 bytes, so that it is taken whole: at most two
 /// segments end in such a piece, since all of them but the first have 2,048 bytes or more of it.
 pub const MOST_WAITING: usize = 61;
+/// Where so many segments wait and the first has no digest, it pays to start threads that take all of them.
+pub(crate) const MANY: usize = 32;
 
-/// Segments in the order in which they came. It takes the memory for all of them when it is made.
+/// Segments in the order in which they came. It takes the memory for all of them when it is made; `hash` alone takes more.
 #[derive(Drop)]
 pub struct Queue {
     waiting: VecDeque<Vec<u8>>,
     spare: Vec<Vec<u8>>,
+    /// The digests of the first segments that wait, of as many as were taken.
+    kept: VecDeque<[u8; 32]>,
 }
 
 impl Model for Queue {
@@ -33,7 +41,7 @@ impl Model for Queue {
     ghost use Rattle.std.specs.VecDeque.{deque_capacity};
     ghost use Rattle.ingest_session.specs.Buffers.{IsQueue};
 
-    ghost invariant = { λ q. IsQueue q.waiting.items (deque_capacity q.waiting) q.spare };
+    ghost invariant = { λ q. IsQueue q.waiting.items (deque_capacity q.waiting) q.spare q.kept.items };
 }
 
 /// So many buffers, each with room for a segment.
@@ -59,13 +67,14 @@ fn refill(buffer: &mut Vec<u8>, bytes: &[u8])
 }
 
 impl Queue {
-    /// No segments. It fails for want of memory alone, and no later call takes any.
+    /// No segments. It fails for want of memory alone, and no later call takes any but `hash` and `first`.
     pub fn new(alloc: Global) -> Result<Queue, AllocError>
         ensures { IfOk result (λ q. q ≡ []) }
     {
         Ok(Queue {
             waiting: VecDeque::with_capacity(alloc, BUFFERS)?,
             spare: buffers(alloc)?,
+            kept: VecDeque::new(alloc),
         })
     }
 
@@ -94,7 +103,7 @@ impl Queue {
     }
 
     /// The bytes of the first segment.
-    pub fn front(&self) -> &[u8]
+    fn front(&self) -> &[u8]
         requires { 0 < length self.now }
         ensures first { self.now ≡ result.now ∷ drop 1 self.now }
         ensures at_most { length result.now ≤ MOST_SEGMENT }
@@ -102,11 +111,40 @@ impl Queue {
         self.waiting[0].as_slice()
     }
 
+    /// The first segment with its digest, which is taken here where it wasn't before. It fails for want of memory alone.
+    pub fn first(&self, alloc: Global) -> Result<Seg, AllocError>
+        requires { 0 < length self.now }
+        ensures { IfOk result (λ seg. front_of self.now ≡ Some seg) }
+    {
+        match self.kept.front() {
+            Some(digest) => Seg::leaf_with_digest(alloc, self.front(), *digest),
+            None => Seg::leaf(alloc, self.front()),
+        }
+    }
+
+    /// Whether the first segment has no digest yet, and so many wait that it pays to start threads.
+    pub fn hash_pays(&self) -> bool
+        ensures { IsTrue result → MANY ≤ length self.now }
+    {
+        self.kept.is_empty() && self.waiting.len() >= MANY
+    }
+
+    /// Takes the digests of all segments that have none yet, at once, by several threads. It fails for want of memory alone, and
+    /// then none of them has one.
+    pub fn hash(&mut self, rt: &(impl Threads + Sync), alloc: Global) -> Result<(), AllocError>
+        ensures { self.new ≡ self.old }
+    {
+        let (_, bare) = self.waiting.make_contiguous().split_at(self.kept.len());
+        let taken = digests(rt, alloc, bare)?;
+        self.kept.append(&mut VecDeque::from_vec(taken))
+    }
+
     /// Takes the first segment away.
     pub fn pop(&mut self)
         requires { 0 < length self.old }
         ensures { self.new ≡ drop 1 self.old }
     {
+        let _ = self.kept.pop_front();
         match self.waiting.pop_front() {
             Some(buffer) => self.spare.push_reserved(buffer),
             None => unreachable!(),

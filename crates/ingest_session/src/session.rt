@@ -1,8 +1,8 @@
 //! A session: the bytes of a file as they come.
-ghost use Rattle.std.specs.Prelude.{◌≡◌, ◌+◌, ◌*◌, ◌<◌, ◌≤◌, ℕ, false, List, [], ◌++◌, IfOk, OnErr, length, take};
+ghost use Rattle.std.specs.Prelude.{◌≡◌, ◌+◌, ◌*◌, ◌<◌, ◌≤◌, ℕ, IsTrue, false, List, [], ◌++◌, IfOk, OnErr, length, take};
 
 use crate::line::Line;
-use crate::queue::{MOST_WAITING, QUEUE, Queue};
+use crate::queue::{MANY, MOST_WAITING, QUEUE, Queue};
 use container_meta::{Kind, OpenContainer, Seg};
 use disk_format::{LEAST_SEGMENT, MOST_FILE};
 use merkle_file::{Top, TreeBuilder};
@@ -10,6 +10,7 @@ use refusals::{PartKind, Refusal};
 use segmenter::Cutter;
 use std::alloc::{AllocError, Global};
 use std::marker::Model;
+use std::thread::Threads;
 
 /// The bytes of a file as they come, and what of them the store is still to hold.
 ///
@@ -195,5 +196,20 @@ impl Session {
         ensures { result ≡ length self.now.queue + self.now.unseen }
     {
         self.queue.len() + self.unseen
+    }
+
+    /// Whether it pays to call `hash` before `due`: the first segment of the queue has no digest yet, and 32 or more wait.
+    pub fn hash_pays(&self) -> bool
+        ensures { IsTrue result → MANY ≤ length self.now.queue }
+    {
+        self.queue.hash_pays()
+    }
+
+    /// Takes the digests of all segments of the queue that have none yet, at once, by several threads; `due` takes that of its
+    /// first segment itself where it has none. It fails for want of memory alone. The session is the same after it.
+    pub fn hash(&mut self, rt: &(impl Threads + Sync)) -> Result<(), AllocError>
+        ensures { self.new ≡ self.old }
+    {
+        self.queue.hash(rt, self.alloc)
     }
 }

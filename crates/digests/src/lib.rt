@@ -1,0 +1,33 @@
+//! The digests of many byte strings at once, by several threads.
+#![tactic(auto)]
+
+ghost use Rattle.std.specs.Prelude.{◌≡◌, map, IfOk};
+ghost use Rattle.sha2.specs.Sha256.{sha256};
+
+use rayon::prelude::*;
+use sha2::{Digest, Sha256};
+use std::alloc::{AllocError, Global};
+use std::thread::Threads;
+
+/// A thread gets no fewer segments than this: to start it costs about as much as the digests of two or three of the usual length.
+const LEAST_PIECE: usize = 15;
+
+/// The SHA-256 (FIPS 180-4) of each segment, in their order, as one thread would take them. Threads are started where there are
+/// 30 or more, at most one for each processor or so, and are joined before it returns. It fails for want of memory alone.
+pub fn digests(
+    rt: &(impl Threads + Sync),
+    alloc: Global,
+    segments: &[Vec<u8>],
+) -> Result<Vec<[u8; 32]>, AllocError>
+    ensures { IfOk result (λ all. all.items ≡ map (λ s. sha256 s.items) segments.now) }
+{
+    segments
+        .par_iter()
+        .map(
+            |segment: &Vec<u8>| -> [u8; 32]
+                ensures { result ≡ sha256 segment.now.items }
+            { Sha256::digest(segment.as_slice()) },
+        )
+        .with_min_len(LEAST_PIECE)
+        .collect(rt, alloc)
+}

@@ -1,11 +1,11 @@
 -- What holds of a sweep by the store holds once what was copied is written, and all live keys stay live.
-use Rattle.gc_sweep.proofs.Prelude.{◌≡◌, ◌≢◌, ◌⊎◌, inl, inr, ℕ, zero, suc, ◌+◌, ◌<◌, ◌≤◌, Bool, true, false, List, [], ◌∷◌, length, get_or, map, take, Option, Some, None, refl, sym, ◌∙◌, ap, subst, arith, ◌||◌, bytes_eq, Contains-append_left, sha256, Entry, Kind, Place, PlaceMap, Segment, entries_from, has_key, segment_key, HeaderValue, IsHeader, header_of, is_copy, LiveKeys, entry_key, with_entries, first_free, free_slots, place_of, with_slot, some_same, first_closed, some_free, entry_of, put_none, put_some, still_has, RepresentsSlots, SlotTable, Flush, Sweep, HasFlushed, AreCopied, HoldsSweep, IsCopied, IsHalfCopied, IsLive, HasNoEntryIn, HasNext, IsSweeping, entry_in, sources_before}
+use Rattle.gc_sweep.proofs.Prelude.{◌≡◌, ◌≢◌, ◌⊎◌, inl, inr, ℕ, zero, suc, ◌+◌, ◌<◌, ◌≤◌, Bool, true, false, List, [], ◌∷◌, length, get_or, map, take, Option, Some, None, refl, sym, ◌∙◌, ap, subst, arith, ◌||◌, bytes_eq, Contains-append_left, sha256, Entry, Kind, Place, PlaceMap, Segment, entries_from, has_key, segment_key, HeaderValue, IsHeader, header_of, is_copy, LiveKeys, entry_key, with_entries, first_free, free_slots, place_of, with_slot, some_same, first_closed, some_free, entry_of, put_none, put_some, still_has, RepresentsSlots, SlotTable, Flush, Sweep, HasFlushed, AreCopied, HoldsSweep, IsCopied, IsHalfCopied, HasNoEntryIn, HasNext, IsSweeping, entry_in, sources_before}
 use Rattle.std.proofs.Common.{cond}
 use Rattle.std.specs.Prelude.{slice_get}
 use Rattle.std.specs.FinMap as finite
 use Rattle.std.specs.List.{Contains}
 use Rattle.gc_sweep.proofs.Holds.{no_key, none_copied}
-use Rattle.gc_sweep.proofs.InSlots.{at_copy, copy_at, live_on, none_in, source_old, stands_in}
+use Rattle.gc_sweep.proofs.InSlots.{at_copy, copy_at, none_in, source_old, stands_in}
 use Rattle.gc_sweep.proofs.KeyLists.{each_so, listed}
 
 -- ---- the container that was written
@@ -55,10 +55,6 @@ module _ (t : SlotTable) (index : PlaceMap) (held : List (Option HeaderValue)) (
   -- each key that the index has stays in it
   pub keys_flushed : (key : List ℕ) (at : Place) → finite.get index key ≡ Some at → (other : Place) × (finite.get later key ≡ Some other)
   keys_flushed key at has = still_has s.buffer.kind place (entries_from 0 s.buffer.segments) index key (at, has)
-
-  -- and each that is live is so still
-  pub live_flushed : (key : List ℕ) → IsLive index live key → IsLive later live key
-  live_flushed key is = live_on index later live key (keys_flushed key) is
 
   -- what it has elsewhere it had, and that was not filled
   had_elsewhere : (key : List ℕ) (at : Place) → finite.get later key ≡ Some at → at.slot ≢ place → (finite.get index key ≡ Some at) × (has_key s.buffer key ≡ true → ⊥)

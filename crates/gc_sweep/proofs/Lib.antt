@@ -1,6 +1,5 @@
 pub mod Arrives
 pub mod Begun
-pub mod BesideOthers
 pub mod Copied
 pub mod CopyFailures
 pub mod CopyKeeps

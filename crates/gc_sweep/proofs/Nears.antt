@@ -1,5 +1,5 @@
 -- Each step of a sweep leaves fewer to come.
-use Rattle.gc_sweep.proofs.Prelude.{◌≡◌, inl, inr, ℕ, ◌+◌, ◌*◌, ◌<◌, ◌≤◌, Bool, true, false, List, [], ◌∷◌, ◌++◌, length, drop, Option, None, Some, refl, ap, sym, subst, ◌∙◌, arith, length-append, eq-eqb, PlaceMap, Contents, HeaderValue, Plan, PlansBy, IsPlan, source_of, Shows, DiskView, LiveKeys, SlotTable, Next, Flush, Release, End, Sweep, Begins, CopiesSource, EndsBy, HasEnded, IsFilling, TakesBy, HasFlushed, HasReleased, IsNext, HasNext, IsSweeping}
+use Rattle.gc_sweep.proofs.Prelude.{◌≡◌, inl, inr, ℕ, ◌+◌, ◌*◌, ◌<◌, ◌≤◌, Bool, true, false, List, [], ◌∷◌, ◌++◌, length, drop, Option, None, Some, refl, ap, sym, subst, ◌∙◌, arith, length-append, eq-eqb, PlaceMap, Contents, HeaderValue, Plan, PlansBy, IsPlan, source_of, Shows, DiskView, LiveKeys, SlotTable, Next, Flush, Release, End, Sweep, CopiesSource, EndsBy, HasEnded, IsFilling, TakesBy, HasFlushed, HasReleased, IsNext, HasNext, IsSweeping}
 use Rattle.std.proofs.Common.{◌-◌}
 use Rattle.gc_sweep.specs.declared.sweep.Next.TheVariants.{Copy}
 use Rattle.gc_sweep.specs.StepsLeft.{steps_at, steps_left}
@@ -12,11 +12,6 @@ next_few t sources buffer k entry s (Copy source e) is = omega (arith, is.0)
 next_few t sources buffer k entry s (Flush source e) is = omega (arith, is.0)
 next_few t sources buffer k entry s (Release source e) is = absurd is
 next_few t sources buffer k entry s End is = omega arith
-
--- as a sweep begins
-pub begun_few : (t : SlotTable) (sources : List ℕ) (s : Sweep) → Begins t sources s → steps_left s ≤ 4 * length sources
-begun_few t sources s begins =
-    omega (arith, next_few t sources s.buffer 0 0 s s.next begins.next_is, ap length begins.none_waits, ap length begins.sources_are)
 
 module _ (t : SlotTable) (snapshot source entry : ℕ) (s s' : Sweep) (under : IsSweeping t snapshot s) where
   -- so many come of this next step

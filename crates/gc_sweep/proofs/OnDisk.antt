@@ -1,7 +1,6 @@
 -- The slots of a running store, by its tables, and its disk.
 use Rattle.gc_sweep.proofs.Prelude.{◌≡◌, ℕ, ◌+◌, ◌<◌, ◌≤◌, length, Option, ap, ◌∙◌, arith, length-map, PlaceMap, MOST_SLOTS, slot_at, as_many, Runs, count_of, Tables}
 use Rattle.disk_format.specs.declared.numbers.TheConstants.{SLOT_BYTES}
-use Rattle.store_state.specs.Indexing.{IsOfSlots}
 
 module _ (size : ℕ) (known : Option PlaceMap) (t : Tables) (runs : Runs size known t) where
   -- each slot has an id
@@ -16,9 +15,6 @@ module _ (size : ℕ) (known : Option PlaceMap) (t : Tables) (runs : Runs size k
   columns =
       let held = runs.store.held in
       omega (arith, ap length runs.represents.slots_hold.counts_are, length-map held count_of, ap length runs.represents.slots_hold.ids_are, as_many held)
-
-  pub of_slots : IsOfSlots size
-  of_slots = record { slots = runs.store.slots; size_is = runs.valid.size_is }
 
 -- a slot lies on the disk
 pub slot_fits : (size : ℕ) (known : Option PlaceMap) (t : Tables) (slot : ℕ) → Runs size known t → slot < length t.held.ids.items → slot_at slot + SLOT_BYTES ≤ size

@@ -48,9 +48,6 @@ module _ (index : PlaceMap) (held : List (Option HeaderValue)) (image : List ℕ
   gains : Gains src (Shows old new) index before after
   gains = takes_gain src (Shows old new) index refl (drop entry h.entries) before after is.passed is.takes
 
-  kind_is : plan.buffer.kind ≡ h.kind
-  kind_is = is.kind_is ∙ read.kind_is
-
   -- ---- the index
 
   -- a live key isn't one that leaves

@@ -78,9 +78,6 @@ module _ (S : List ℕ → Type 0) (store : Store) (index : PlaceMap) (files : F
   P : List ℕ → Type 0
   P = Stands S store files
 
-  Q : List ℕ → Type 0
-  Q = Stands S (with_freed slot store) files
-
   once : (given c : List ℕ) → Stands S store files given → IsFreed slot given c → Stands S (with_freed slot store) files c
   once given c stands freed =
       one_freed_stands S (HasKey index) files store slot h given c there freed.0 stands needed (none_held store index slot partial none) freed.1

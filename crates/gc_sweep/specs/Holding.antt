@@ -57,9 +57,9 @@ pub record SourcesStand (held : List (Option HeaderValue)) (snapshot : ℕ) (s :
   pub stand : (slot : ℕ) → Contains (s.waiting.items ++ s.ready.items) slot
       → (h : HeaderValue) × ((slice_get held slot ≡ Some (Some h)) × (h.id < snapshot))
 
--- What was copied is live, and is what the store holds; and the index has each key of it in one of the sources that it came from, or in a
--- newer container. What the index has of a source that waits was copied, as what it has of the first entries of one that was copied in part;
--- of a source that is ready it has nothing.
+-- What was copied is live, and is what the store holds; and the index has each key of it in one of the sources that it came from,
+-- or in a newer container. What the index has of a source that waits was copied, as what it has of the first entries of one that was
+-- copied in part; of a source that is ready it has nothing.
 pub record HoldsSweep (index : PlaceMap) (held : List (Option HeaderValue)) (image : List ℕ) (live : LiveKeys) (snapshot : ℕ) (s : Sweep)
     : Type 0 where
   pub copied : AllByRecursion (IsCopied index live held image s.buffer.kind) s.buffer.segments

@@ -146,7 +146,8 @@ pub fn copy_source<D: Disk, X: Index>(
     ensures ok { OnOk result (CopiesSource
         (copy_step tables.now.held live.now (X.places index.old (D.view disk.old).content) source entry sweep.old)
         (X.places index.new (D.view disk.new).content) (D.view disk.old) (D.view disk.new) sweep.new) }
-    ensures under_way { (snapshot : ℕ) → IsSweeping tables.now.held snapshot sweep.old → IsSweeping tables.now.held snapshot sweep.new }
+    ensures under_way { (snapshot : ℕ)
+        → IsSweeping tables.now.held snapshot sweep.old → IsSweeping tables.now.held snapshot sweep.new }
     ensures unchanged { OnErr result (sweep.new ≡ sweep.old) }
     ensures refused { IfErr result (IsCopyStepRefusal (copy_step tables.now.held live.now
         (X.places index.old (D.view disk.old).content) source entry sweep.old) (D.view disk.old) (D.view disk.new)) }

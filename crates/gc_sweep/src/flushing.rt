@@ -78,7 +78,8 @@ pub fn flush_copies<D: Disk, X: Index>(
         slot sweep.old.buffer tables.new × HasPlacesOf sweep.old.buffer slot (X.places index.old) (X.places index.new)
         (D.view disk.old).content (D.view disk.new).content) }
     ensures sweep { OnOk result (HasFlushed source entry sweep.old sweep.new) }
-    ensures under_way { (snapshot : ℕ) → IsSweeping tables.old.held snapshot sweep.old → IsSweeping tables.new.held snapshot sweep.new }
+    ensures under_way { (snapshot : ℕ)
+        → IsSweeping tables.old.held snapshot sweep.old → IsSweeping tables.new.held snapshot sweep.new }
     ensures refused { IfErr result (FlushesNothing tables.old tables.new (X.places index.old (D.view disk.old).content)
         (X.places index.new (D.view disk.new).content) sweep.old sweep.new) }
     ensures disk { Steps tables.old.slots (ending blames result) (D.view disk.old) (D.view disk.new) }

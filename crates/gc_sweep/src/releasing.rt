@@ -49,7 +49,8 @@ pub fn release_source<D: Disk>(
     requires under_way { (snapshot : ℕ) × IsSweeping tables.old.held snapshot sweep.old }
     requires next { sweep.old.next ≡ ReleaseNext source entry }
     ensures ok { OnOk result (ReleasesSource tables.old tables.new source entry sweep.old sweep.new (D.view disk.new)) }
-    ensures under_way { (snapshot : ℕ) → IsSweeping tables.old.held snapshot sweep.old → IsSweeping tables.new.held snapshot sweep.new }
+    ensures under_way { (snapshot : ℕ)
+        → IsSweeping tables.old.held snapshot sweep.old → IsSweeping tables.new.held snapshot sweep.new }
     ensures tables_kept { OnErr result (tables.new ≡ tables.old) }
     ensures kept { OnErr result (sweep.new ≡ sweep.old) }
     ensures refused { IfErr result (λ refusal. refusal ≡ DiskWrite) }

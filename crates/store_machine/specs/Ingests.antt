@@ -1,5 +1,5 @@
 -- What the lines of an `ingest` come to, in a run of the machine of files: what the plain map makes of it.
-use Rattle.std.specs.Prelude.{◌≡◌, ◌⊎◌, ◌<◌, ◌≤◌, ◌-◌, ◌^◌, ℕ, ◌∷◌, suc, Bool, true, List, [], ◌++◌, length, is_some, slice_get, Some, None, Err}
+use Rattle.std.specs.Prelude.{◌≡◌, ◌⊎◌, ◌<◌, ◌≤◌, ◌-◌, ◌^◌, ℕ, ◌∷◌, Bool, true, List, [], ◌++◌, length, is_some, slice_get, Some, None, Err}
 use Rattle.std.specs.FinMap as finite
 use Rattle.std.specs.List.{AllByRecursion}
 use Rattle.actor_parts.specs.declared.step.Answer.{Answer}

@@ -5,8 +5,7 @@ use Rattle.std.specs.List.{AllByRecursion}
 use Rattle.sha2.specs.Sha256.{sha256}
 use Rattle.actor_parts.specs.PinMap.{PinMap, has_pin}
 use Rattle.actor_parts.specs.Segments.{first_unpinned, pin_of}
-use Rattle.container_meta.specs.declared.kind.Kind.{Kind}
-use Rattle.container_meta.specs.Segments.{Contents, KindSegment, Segment, segment_key}
+use Rattle.container_meta.specs.Segments.{Contents, KindSegment, segment_key}
 use Rattle.disk_format.specs.Cells.{Change, IsName, Root}
 use Rattle.disk_format.specs.Cells.Change.{Put, Delete as Gone}
 use Rattle.disk_format.specs.Layout.{half_cells}
@@ -22,7 +21,7 @@ use Rattle.refusals.specs.declared.refusal.Refusal.TheVariants.{Memory, NoFile, 
 use Rattle.store_model.specs.Image.{Store}
 use Rattle.store_model.specs.Indexing.{bytes_in_slots, entries_in}
 use Rattle.store_model.specs.Refusals.{root_key}
-use Rattle.store_model.specs.Slots.{free_slots, newest}
+use Rattle.store_model.specs.Slots.{free_slots}
 use Rattle.store_model.specs.Steps.{CanRise, with_change, with_checkpoint, with_other}
 use Rattle.store_machine.specs.Collecting.{Begins, Ends, GoesOn, IsCollecting, MayBreak}
 use Rattle.store_machine.specs.Asked.{Asked}

@@ -70,18 +70,21 @@ module _ {V R : Type 0} where
 
   -- ---- what they make of the machine
 
-  -- A container more, of the next id, in the closed slot of least number. Its segments are kept, needed by the collection that runs, and
-  -- forgotten no more.
+  -- A container more, of the next id, in the closed slot of least number. Its segments are kept, beside these pins, needed by the collection
+  -- that runs, and forgotten no more.
+  abbrev pub with_container : ℕ → Contents → PinMap → Machine V R → Machine V R
+  with_container actor c pins m = record (put_at m actor (Writing (with_pins c.kind c.segments pins))) {
+    store = with_sealed (suc m.last_id) c.kind c.segments m.store;
+    last_id = suc m.last_id;
+    forgotten = forgotten_beside (keys_of c.kind c.segments) m.forgotten;
+    collection = keeping (keys_of c.kind c.segments) m.collection;
+  }
+
   pub record AddsContainer (actor : ℕ) (filled : Contents) (m n : Machine V R) : Type 0 where
     pub pins : PinMap
     pub writing : part_in m actor ≡ Writing pins
     pub can : CanSeal (suc m.last_id) filled.kind filled.segments m.store
-    pub others : n ≡ record (put_at m actor (Writing (with_pins filled.kind filled.segments pins))) {
-      store = with_sealed (suc m.last_id) filled.kind filled.segments m.store;
-      last_id = suc m.last_id;
-      forgotten = forgotten_beside (keys_of filled.kind filled.segments) m.forgotten;
-      collection = keeping (keys_of filled.kind filled.segments) m.collection;
-    }
+    pub others : n ≡ with_container actor filled pins m
 
   -- one after the other
   abbrev pub AddsContainers : (actor : ℕ) → List Contents → Machine V R → Machine V R → Type 0

@@ -196,8 +196,8 @@ module _ {followed : Bool} (c d : CoreState) (m : M) (at : IsMachine followed m 
           offer = record {
             some = omega arith;
             few = omega arith;
-            all_data = λ two. absurd (omega (arith, two));
-            filled = (some_segments id filled.kind filled.segments may_seal.right, tt);
+            leaves = λ two. absurd (omega (arith, two));
+            segments = (some_segments id filled.kind filled.segments may_seal.right, tt);
           };
           may = keeps is.may;
           count_is = sym (one_sealed (free_slots m.store.held) m.last_id may_seal.slot left);

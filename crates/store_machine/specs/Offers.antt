@@ -21,15 +21,15 @@ AnyByRecursion P (x ∷ xs) = P x ⊎ AnyByRecursion P xs
 
 -- ---- what is offered
 
-abbrev pub most_offered : ℕ
-most_offered = 16
+abbrev pub most_together : ℕ
+most_together = 16
 
 -- one container, or some of data, each with a segment
 pub record IsOffer (offered : List Contents) : Type 0 where
   pub some : 1 ≤ length offered
-  pub few : length offered ≤ most_offered
-  pub all_data : 2 ≤ length offered → AllByRecursion (λ c. c.kind ≡ Leaf) offered
-  pub filled : AllByRecursion (λ c. 1 ≤ length c.segments) offered
+  pub few : length offered ≤ most_together
+  pub leaves : 2 ≤ length offered → AllByRecursion (λ c. c.kind ≡ Leaf) offered
+  pub segments : AllByRecursion (λ c. 1 ≤ length c.segments) offered
 
 -- the key of the first child of their segments that isn't kept
 abbrev pub first_unkept_in : List Contents → PinMap → Option (List ℕ)

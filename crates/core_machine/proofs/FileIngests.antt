@@ -1,5 +1,5 @@
 -- What the content of a disk adds to claims, seals and commits, so that they are steps of the machine of files.
-use Rattle.core_machine.proofs.Prelude.{◌≡◌, inl, inr, ◌<◌, ◌≤◌, ℕ, zero, suc, List, [], ◌∷◌, length, take, Option, Some, None, Result, Ok, Err, refl, sym, ◌∙◌, ap, subst, arith, slice_get, AllByRecursion, Shows, shown_content, Root, MOST_FILE, Kind, Place, kind_byte, KindSegment, Segment, segment_at, segment_key, Answer, Refusal, Stored, Store, HasKey, IsPartialIndexOf, newest, bytes_at, store_once, length_of_copy, ClaimRow, CommitRow, SealRow, IsAt, IsHarmless, CoreState, data_level, FileMachine, IsLacked, HasCopy, AddsToAnswer, RootMachine, stored_in, TellsForgotten, answered_by}
+use Rattle.core_machine.proofs.Prelude.{◌≡◌, inl, inr, ◌<◌, ◌≤◌, ℕ, zero, suc, List, [], ◌∷◌, length, take, Option, Some, None, Result, Ok, Err, refl, sym, ◌∙◌, ap, subst, arith, slice_get, AllByRecursion, Shows, shown_content, Root, MOST_FILE, Kind, Place, kind_byte, KindSegment, Segment, segment_at, segment_key, Answer, Refusal, Stored, Store, HasKey, IsPartialIndexOf, newest, bytes_at, store_once, length_of_copy, ClaimRow, CommitRow, SealRow, IsAt, IsHarmless, CoreState, data_level, FileMachine, IsLacked, HasCopy, AddsToAnswer, RootMachine, of_files, stored_in, TellsForgotten, answered_by}
 use Rattle.std.proofs.Common.{IfErr}
 use Rattle.std.specs.FinMap as finite
 use Rattle.std.specs.List.{Contains}

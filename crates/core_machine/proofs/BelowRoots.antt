@@ -1,6 +1,6 @@
 -- What actors need that read, and what lies below the roots of a collection: the tree of a file that is read goes from nodes to their children,
 -- and each key of it, as each that the files need, lies below a root.
-use Rattle.core_machine.proofs.Prelude.{◌≡◌, ℕ, List, Some, ◌∙◌, sym, ap, subst, AllByRecursion, Contains-get_or, Reader, LiveKeys, child_keys, IsLive, HoldsNode, IsPartKey, IsRoot, root_there, root_whole, IsTree, Stored, Store, names_of, root_key, IsReachable, tree_keys, HasKey, file_tree, node_key, right_file, root_of_tree, IsAt, CoreState, IsBelowLive}
+use Rattle.core_machine.proofs.Prelude.{◌≡◌, ℕ, List, Some, ◌∙◌, sym, ap, subst, AllByRecursion, Contains-get_or, Reader, LiveKeys, child_keys, IsLive, HoldsNode, IsPartKey, IsRoot, root_there, root_whole, IsTree, Stored, Store, names_of, root_key, IsReachable, tree_keys, file_tree, node_key, right_file, root_of_tree, IsAt, CoreState, IsBelowLive}
 use Rattle.std.proofs.Common.{get_or}
 use Rattle.std.specs.List.{All, Contains}
 use Rattle.actor_parts.specs.declared.part.Part.TheVariants as core

@@ -1,14 +1,15 @@
 -- Lists of bytes of which some were written: what of a store is as it was.
-use Rattle.core_machine.proofs.Prelude.{◌≡◌, ◌≢◌, inl, inr, ◌<◌, ◌≤◌, ◌+◌, ◌-◌, ℕ, Bool, List, length, Option, Some, None, refl, sym, ◌∙◌, subst, arith, lt-ltb, SameOutside, Known, KnownWith, Both, half_cells, slot_at, SLOT_BYTES, SameButSlotOf, SameBefore, Store, Tables, SameButGate}
+use Rattle.core_machine.proofs.Prelude.{◌≡◌, ◌≢◌, inl, inr, ◌<◌, ◌≤◌, ◌+◌, ◌-◌, ℕ, Bool, List, [], ◌∷◌, length, Option, Some, None, refl, sym, ◌∙◌, subst, arith, lt-ltb, SameOutside, Known, KnownWith, Both, half_cells, slot_at, SLOT_BYTES, SameButSlotOf, SameBefore, Store, Tables, SameButGate}
 use Rattle.std.proofs.lemmas.Bool.{cases_lt}
 use Rattle.base_model.specs.Bytes.{range}
+use Rattle.container_meta.specs.Segments.{Contents}
 use Rattle.disk_format.specs.Layout.{cell_at}
 use Rattle.disk_format.specs.declared.numbers.TheConstants.{CELL_BYTES, FIRST_HALF}
 use Rattle.ingest_steps.specs.Recording.{SameButRecord as SameButRecordOf, SameButRecordBy}
 use Rattle.ingest_steps.proofs.RecordFrames.{record_alone}
 use Rattle.store_model.specs.Steps.{HasCellsFor}
 use Rattle.store_model.proofs.Journaled.{SameButJournal}
-use Rattle.core_machine.specs.Bytes.{SameBut, SameJournal}
+use Rattle.core_machine.specs.Bytes.{SameBut, SameButSlot, SameButSlots, SameJournal}
 
 pub before_same : (place : ℕ) (bytes : List ℕ) → SameBefore place bytes bytes
 before_same place bytes = record { size = refl; before = λ p n within. refl }
@@ -98,6 +99,16 @@ module _ (slots slot : ℕ) (old new : List ℕ) (same : SameButSlotOf slots slo
     };
     slots_are = λ other below differs. another_slot other below differs;
   }
+
+-- one container is for the first
+pub slots_alone : (last : ℕ) (filled : Contents) (old new : List ℕ) → SameButSlot old new → SameButSlots last (filled ∷ []) old new
+slots_alone last filled old new (store, (right, but)) = (
+  store,
+  (
+    right,
+    record { size_is = but.size_is; format = but.format; journal = but.journal; slots_are = λ slot within other. but.slots_are slot within (λ is. other (inl is)) },
+  ),
+)
 
 -- ---- the bytes of a record may be
 

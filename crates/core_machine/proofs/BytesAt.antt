@@ -7,7 +7,7 @@ use Rattle.ingest_steps.specs.Naming.{ChangesJournalAlone}
 use Rattle.ingest_steps.specs.Sealing.{ChangesFirstFree}
 use Rattle.store_model.specs.Collisions.{Stands}
 use Rattle.store_state.specs.Settled as settled
-use Rattle.core_machine.proofs.Bytes.{before_same, both_known, but_none, but_record, but_slot, known_weaker}
+use Rattle.core_machine.proofs.Bytes.{both_known, but_none, but_record, but_slot, known_weaker}
 
 -- ---- segments that a store holds
 

@@ -1,6 +1,6 @@
 -- What each step of a core that stands for files leaves of the bytes of its disk, as the machine of files has it.
 use Rattle.std.specs.Prelude.{IfErr}
-use Rattle.core_machine.proofs.Prelude.{◌≡◌, ℕ, List, [], ◌∷◌, Option, Some, None, Result, Ok, Err, refl, sym, ◌∙◌, ap, subst, AllByRecursion, KnownWith, ending_of, OnlyReads, Change, Root, Gone, Put, Answer, IsStep, StepValue, pin_of, HasNewest, KindSegment, segment_at, segment_key, Refusal, ByteSet, IsIn, Store, with_sealed, blames, IsSettled, Represents, Tables, PlaceMap, GcEffect, GcRow, IsNotMade, TouchesBy, ClaimRow, CommitRow, DeleteRow, Effect, NamesOne, Rests, Row, SealRow, SealsOne, Steps, StopsAfter, next_id, FileEvent, IsAt, IsGivenRight, IsNoGcStep, IsHarmless, MayClash, CoreState, running_step, never_damaged, FileMachine, Answers, ByState, LegalBy, RunState, Stopped, RootMachine, of_files, AllHeld, BytesOf, ChangesBytes, Holds, SameButRecord, SameStore, stored_in, answered_by, asked_as, NamesGc, NamesStep}
+use Rattle.core_machine.proofs.Prelude.{◌≡◌, inl, ℕ, List, [], ◌∷◌, Option, Some, None, Result, Ok, Err, refl, sym, ◌∙◌, ap, subst, AllByRecursion, KnownWith, ending_of, OnlyReads, Change, Root, Gone, Put, Answer, IsStep, StepValue, pin_of, HasNewest, KindSegment, segment_at, segment_key, Refusal, ByteSet, IsIn, Store, with_sealed, blames, IsSettled, Represents, Tables, PlaceMap, GcEffect, GcRow, IsNotMade, TouchesBy, ClaimRow, CommitRow, DeleteRow, Effect, NamesOne, Rests, Row, SealRow, SealsOne, Steps, StopsAfter, next_id, FileEvent, IsAt, IsGivenRight, IsNoGcStep, IsHarmless, MayClash, CoreState, running_step, never_damaged, FileMachine, Answers, ByState, LegalBy, RunState, Stopped, RootMachine, of_files, AllHeld, BytesOf, ChangesBytes, Holds, SameButRecord, SameStore, stored_in, answered_by, asked_as, NamesGc, NamesStep}
 use Rattle.std.proofs.lemmas.List.{append-nil}
 use Rattle.dd_disk.specs.Ending.{Done}
 use Rattle.actor_parts.specs.declared.step.Answer.TheVariants as answers
@@ -13,14 +13,17 @@ use Rattle.store_core.proofs.GcSteps.{end_reads}
 use Rattle.store_core.proofs.KeepingFiles.{may_seal_all}
 use Rattle.store_core.proofs.KeepingSegments.{keeps_segments}
 use Rattle.store_machine.specs.Asked as asked
-use Rattle.core_machine.specs.Bytes.{OneClashes}
+use Rattle.ingest_steps.specs.Sealing as sealing
+use Rattle.store_machine.specs.Offers.{AnyByRecursion, sealed_in}
+use Rattle.core_machine.specs.Bytes.{OneClashes, SameButSlots}
 use Rattle.core_machine.specs.Files.{file_step}
-use Rattle.core_machine.proofs.Bytes.{known_of, known_weaker}
+use Rattle.core_machine.proofs.Bytes.{known_of, known_weaker, slots_alone}
 use Rattle.core_machine.proofs.BytesAt.{IsRest, all_held, reads_told, record_told, rest_told, right_here, slot_told, stands_here, store_told}
 use Rattle.core_machine.proofs.BytesSwept.{broke, refused, swept}
 use Rattle.core_machine.proofs.FileBroken.{stores_are}
 use Rattle.core_machine.proofs.FileIngests.{clashes_with, segment_there}
 use Rattle.core_machine.proofs.FileSteps.{StepsTo}
+use Rattle.core_machine.proofs.Sealed.{sealed_alone}
 use Rattle.core_machine.proofs.FileSwept.{makes_so}
 
 module _ {C : Type 0} {state : C → CoreState} {among : ByteSet} {f : FileEvent} {old new : C} {m n : FileMachine} {r t : RootMachine}
@@ -104,11 +107,14 @@ module _ {C : Type 0} {state : C → CoreState} {among : ByteSet} {f : FileEvent
       let holds = effect.moves.holds among m.store m.now.names at.index image now at.index_known at.represents here told stands to.steps.apart may in
       all_held S (with_sealed (next_id c) filled.kind filled.segments m.store) m.now.names now (moved.arrives.each now (d.disk.as_read now told)).1 filled holds.1
 
+  alone : (filled : Contents) → ((slot : ℕ) × sealing.HasSlot c.tables slot) → sealed_in (filled ∷ []) m ≡ filled ∷ []
+  alone filled has = sealed_alone m r c to.steps.forgets to.steps.machine filled has
+
   seal_bytes : (filled : Contents) (answer : Result Answer Refusal) → SealRow filled f.event.actor answer c d → SealsOne filled answer c d → IsStep (steps.Seal filled)
       → IsGivenRight S (steps.Seal filled) answer f.bytes c → IfErr answer (λ refusal. IsHarmless (MayClash (steps.Seal filled)) refusal) → Told (steps.Seal filled) answer
   seal_bytes filled (Ok (answers.Sealed id)) row effect right given harmless =
       let (now, told, same) = slot_told S m.store (stored_in m.now) c d at calm effect.moves.frame in
-      (now, told, (same, sealed_held filled id effect right given now told))
+      (now, told, (slots_alone m.last_id filled image now same, (sealed_held filled id effect right given now told, tt)))
   seal_bytes filled (Ok answer) row effect right given harmless = absurd row
   seal_bytes filled (Err (refusals.Clash key at_byte)) row effect right given harmless =
       let first = row.0.2 in
@@ -123,8 +129,10 @@ module _ {C : Type 0} {state : C → CoreState} {among : ByteSet} {f : FileEvent
         ),
       ) in
       let (now, told, same) = seal_rests filled (refusals.Clash key at_byte) tt effect in
-      (now, told, (same, clash))
-  seal_bytes filled (Err refusals.DiskWrite) row effect right given harmless = slot_told S m.store (stored_in m.now) c d at calm effect.moves.frame
+      (now, told, (same, subst (AnyByRecursion (λ one. OneClashes one image key at_byte)) (sym (alone filled row.0.1)) (inl clash)))
+  seal_bytes filled (Err refusals.DiskWrite) row effect right given harmless =
+      let (now, told, same) = slot_told S m.store (stored_in m.now) c d at calm effect.moves.frame in
+      (now, told, subst (λ (cs : List Contents). SameButSlots m.last_id cs image now) (sym (alone filled row.0.1)) (slots_alone m.last_id filled image now same))
   seal_bytes filled (Err (refusals.Stopped count)) row effect right given harmless = absurd row.0.2.unlike.refused.2
   seal_bytes filled (Err refusals.DiskRead) row effect right given harmless = seal_rests filled refusals.DiskRead tt effect
   seal_bytes filled (Err refusal) row effect right given harmless = seal_rests filled refusal tt effect

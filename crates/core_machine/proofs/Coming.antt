@@ -1,12 +1,11 @@
 -- What is to come of a file, by any store that the tables of a core may be of.
-use Rattle.core_machine.proofs.Prelude.{◌≡◌, ◌∙◌, ℕ, ◌≤◌, List, [], ◌∷◌, ◌++◌, length, Option, Some, refl, sym, subst, arith, MOST_FILE, PlaceMap, HeaderValue, Top, of_segment, IsTree, segments_in, Reader, Stored, Store, ByteSet, IsIn, HoldsCounted, HasKey, KeepsCopies, StoreChange, file_tree, tree_on, SegmentsAhead, segments_on, Represents, IsAt, CoreState, NextOn, some_same}
-use Rattle.std.proofs.lemmas.List.Concat.{flat_map-cons}
+use Rattle.core_machine.proofs.Prelude.{◌≡◌, ◌∙◌, ℕ, ◌≤◌, List, [], ◌∷◌, ◌++◌, length, Some, refl, sym, subst, arith, MOST_FILE, PlaceMap, of_segment, IsTree, Reader, Stored, Store, ByteSet, IsIn, HoldsCounted, HasKey, KeepsCopies, StoreChange, file_tree, tree_on, SegmentsAhead, segments_on, Represents, IsAt, CoreState, NextOn, some_same}
 use Rattle.merkle_file.specs.Tree as tree
 use Rattle.merkle_file.specs.Tree.{Tree, Trees, children_of, leaves, leaves_below}
 use Rattle.merkle_file.specs.Walk.{AreBelow}
 use Rattle.store_model.specs.Trees.{root_of}
 use Rattle.store_model.proofs.SameIndex.{same_copies}
-use Rattle.read_steps.specs.Walking.{HeldAhead, IsIndexed}
+use Rattle.read_steps.specs.Walking.{IsIndexed}
 use Rattle.core_machine.specs.Files.{Takes}
 
 module _ (S : List ℕ → Type 0) (s : Store) (stored : Stored) (c : CoreState) (at : IsAt S s stored c) (image : List ℕ) (told : c.disk.content ≡ Some image) where

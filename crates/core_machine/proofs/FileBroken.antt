@@ -21,6 +21,8 @@ use Rattle.store_model.proofs.Cells.{last_with_cell}
 use Rattle.store_core.specs.Runs.{IsRootOf}
 use Rattle.store_core.proofs.Crashes.{change_leaves, delete_leaves, flush_leaves, last_more, less_indexed, none_in_turn, opens_by, opens_copied, opens_freed, opens_sealed, put_indexed, put_leaves, release_leaves, seal_leaves}
 use Rattle.store_machine.specs.Forgetting.{Forgets}
+use Rattle.store_machine.specs.Offers.{stores_with_some}
+use Rattle.store_machine.proofs.Added.{alone_sealed}
 use Rattle.core_machine.proofs.FileSteps.{StepsAt, StepsTo}
 
 -- what stops a core that finds no damage
@@ -292,7 +294,9 @@ module _ {C : Type 0} {state : C → CoreState} {among : ByteSet} {f : FileEvent
       → NamesStep step (Err refusals.DiskWrite) (state old) (state new) r t → StandsFor (IsIn among) n (state new).disk
   by_step (steps.Seal filled) writes effect right given (may, (slot, fits, is)) named =
       let next : suc m.last_id ≡ next_id (state old) = omega (arith, before.forgets.last_id, before.machine.last_id) in
-      stands_as None (with_sealed (suc m.last_id) filled.kind filled.segments m.store ∷ []) is
+      let alone = alone_sealed filled m slot.0.1 slot.1 in
+      stands_as None (with_sealed (suc m.last_id) filled.kind filled.segments m.store ∷ [])
+      (is ∙ ap (λ (cs : List Contents). stopped None (stores_with_some m.last_id cs m.store) m) alone)
       (seal_stands among m (state old) (state new) here f.bytes before.apart filled (suc m.last_id) next effect right given)
   by_step (steps.Commit name root) writes effect right given (may, (can, numbers, value, whole, is)) named =
       stands_as (Some (with_name of_files name f.bytes m.now)) (broken_by of_files name (Put (root_of f.bytes)) m.store) is

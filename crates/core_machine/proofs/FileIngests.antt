@@ -1,5 +1,5 @@
 -- What the content of a disk adds to claims, seals and commits, so that they are steps of the machine of files.
-use Rattle.core_machine.proofs.Prelude.{◌≡◌, inl, inr, ◌<◌, ◌≤◌, ℕ, zero, suc, List, [], ◌∷◌, length, take, Option, Some, None, Result, Ok, Err, refl, sym, ◌∙◌, ap, subst, arith, slice_get, AllByRecursion, Shows, shown_content, Root, MOST_FILE, Kind, Place, kind_byte, KindSegment, Segment, segment_at, segment_key, Answer, Refusal, Stored, Store, HasKey, IsPartialIndexOf, newest, bytes_at, store_once, length_of_copy, ClaimRow, CommitRow, SealRow, IsAt, IsHarmless, CoreState, data_level, FileMachine, IsLacked, HasCopy, AddsToAnswer, RootMachine, stored_in, TellsForgotten, answered_by}
+use Rattle.core_machine.proofs.Prelude.{◌≡◌, inl, inr, ◌<◌, ◌≤◌, ℕ, zero, suc, List, [], ◌∷◌, length, take, Option, Some, None, Result, Ok, Err, refl, sym, ◌∙◌, ap, subst, arith, slice_get, AllByRecursion, Shows, shown_content, Root, MOST_FILE, Kind, Place, kind_byte, KindSegment, Segment, segment_at, segment_key, Answer, Refusal, Stored, Store, HasKey, IsPartialIndexOf, newest, bytes_at, store_once, length_of_copy, ClaimRow, CommitRow, SealRow, IsAt, IsHarmless, CoreState, data_level, FileMachine, IsLacked, HasCopy, AddsToAnswer, RootMachine, of_files, stored_in, TellsForgotten, answered_by}
 use Rattle.std.proofs.Common.{IfErr}
 use Rattle.std.specs.FinMap as finite
 use Rattle.std.specs.List.{Contains}
@@ -23,7 +23,10 @@ use Rattle.store_core.specs.Runs.{IsRightCommit, IsRootOf}
 use Rattle.store_core.proofs.Damage.{HoldsTwin, IsTwin}
 use Rattle.store_core.proofs.KeepingSegments.{node_level}
 use Rattle.store_machine.specs.Asked as asked
-use Rattle.store_machine.specs.Legal.{Fits}
+use Rattle.ingest_steps.specs.Sealing as sealing
+use Rattle.store_machine.specs.Legal.{AllFit, IsFirstClash}
+use Rattle.store_machine.specs.Needs.{Fits}
+use Rattle.store_machine.specs.Offers.{sealed_in}
 use Rattle.store_machine.specs.Needs.{DifferBy, IsClash}
 use Rattle.store_machine.specs.Remembering.{IsWhole}
 use Rattle.core_machine.specs.Bytes.{ClashesWith}
@@ -203,25 +206,32 @@ module _ (S : List ℕ → Type 0) (m : FileMachine) (t : RootMachine) (old new 
   claim_adds seg (Err (refusals.Corrupt slot offset count want got)) right row harmless = harmless
   claim_adds seg (Err refusal) right row harmless = tt
 
-  pub seal_adds : (filled : Contents) (answer : Result Answer Refusal) → AllByRecursion (IsOfKind filled.kind) filled.segments → SealRow filled a answer old new
-      → IfErr answer (λ refusal. IsHarmless (HoldsTwin filled) refusal) → AddsToAnswer a (asked.Seal filled) (answered_by answer buf) m t
-  seal_adds filled (Ok (answers.Sealed id)) right row harmless =
-      compared_fit S m.store (stored_in m.now) old new at image content_is m.forgotten tells filled.kind filled.segments row.compared.hads right row.compared.fit
-  seal_adds filled (Ok answer) right row harmless = absurd row
-  seal_adds filled (Err (refusals.Clash key difference)) right row harmless =
+  pub seal_adds : (filled : Contents) → (((slot : ℕ) × sealing.HasSlot old.tables slot) → sealed_in (filled ∷ []) m ≡ filled ∷ []) → (answer : Result Answer Refusal)
+      → AllByRecursion (IsOfKind filled.kind) filled.segments → SealRow filled a answer old new → IfErr answer (λ refusal. IsHarmless (HoldsTwin filled) refusal)
+      → AddsToAnswer a (asked.Seal (filled ∷ [])) (answered_by answer buf) m t
+  seal_adds filled alone (Ok (answers.Sealed id)) right row harmless = (
+    compared_fit S m.store (stored_in m.now) old new at image content_is m.forgotten tells filled.kind filled.segments row.compared.hads right row.compared.fit,
+    tt,
+  )
+  seal_adds filled alone (Ok answer) right row harmless = absurd row
+  seal_adds filled alone (Err (refusals.Clash key difference)) right row harmless =
       let first = row.0.2 in
-      let x : Segment = segment_at filled.segments first.number in (
+      let x : Segment = segment_at filled.segments first.number in
+      subst (λ (cs : List Contents). IsFirstClash of_files cs key difference m) (sym (alone row.0.1)) (inl (
         first.number,
         x,
         segment_there filled.segments first.number first.within,
         compared_fit S m.store (stored_in m.now) old new at image content_is m.forgotten tells filled.kind (take first.number filled.segments) first.hads
             (all_first (IsOfKind filled.kind) first.number filled.segments right) first.before,
         clashes S m.store (stored_in m.now) old new at image content_is m.forgotten tells filled.kind x harmless.is_twin.0 key difference first.unlike,
+      ))
+  seal_adds filled alone (Err (refusals.Corrupt slot offset count want got)) right row harmless = harmless
+  seal_adds filled alone (Err refusals.DiskWrite) right row harmless =
+      subst (λ (cs : List Contents). AllFit of_files cs m) (sym (alone row.0.1)) (
+        compared_fit S m.store (stored_in m.now) old new at image content_is m.forgotten tells filled.kind filled.segments row.0.2.hads right row.0.2.fit,
+        tt,
       )
-  seal_adds filled (Err (refusals.Corrupt slot offset count want got)) right row harmless = harmless
-  seal_adds filled (Err refusals.DiskWrite) right row harmless =
-      compared_fit S m.store (stored_in m.now) old new at image content_is m.forgotten tells filled.kind filled.segments row.0.2.hads right row.0.2.fit
-  seal_adds filled (Err refusal) right row harmless = tt
+  seal_adds filled alone (Err refusal) right row harmless = tt
 
   -- a file whose tree the index has may be put under a name
   whole : (root : Root) (file : List ℕ) → length file ≤ MOST_FILE → IsRootOf root file old → IsWhole file m

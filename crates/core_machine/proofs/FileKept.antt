@@ -1,5 +1,5 @@
 -- A core that was at the files of a machine is at those of the machine that a step made of it, where the step is none of a collection.
-use Rattle.core_machine.proofs.Prelude.{◌≡◌, ℕ, List, [], ◌∷◌, None, Some, Result, Ok, Err, refl, sym, ◌∙◌, ap, subst, Root, Answer, StepValue, Refusal, ByteSet, IsIn, Stored, Store, IsSettled, ChangesTo, FileEvent, IsAt, IsNoGcStep, changes_by, stored_by, stored_with, CoreState, NextOn, stays_settled, Asked, FileMachine, Answers, ByState, LegalBy, Refuses, RefusesClaim, RefusesCommit, RefusesDelete, RefusesOn, RefusesSeal, RunState, Running, keeping, RootMachine, of_files, IsOfFile, stored_in, answered_by, asked_as, segment_key}
+use Rattle.core_machine.proofs.Prelude.{◌≡◌, ℕ, List, [], ◌∷◌, with_sealed, None, Some, Result, Ok, Err, refl, sym, ◌∙◌, ap, subst, Root, Answer, StepValue, Refusal, ByteSet, IsIn, Stored, Store, ChangesTo, FileEvent, IsAt, IsNoGcStep, changes_by, stored_by, stored_with, CoreState, NextOn, Asked, FileMachine, Answers, ByState, LegalBy, Refuses, RefusesClaim, RefusesCommit, RefusesDelete, RefusesOn, RefusesSeal, RunState, Running, keeping, RootMachine, of_files, IsOfFile, stored_in, answered_by, asked_as, segment_key}
 use Rattle.actor_parts.specs.declared.step.Answer.TheVariants as answers
 use Rattle.actor_parts.specs.StepValue as steps
 use Rattle.refusals.specs.declared.refusal.Refusal.TheVariants as refusals
@@ -9,6 +9,7 @@ use Rattle.store_machine.specs.Machine.{Collection}
 use Rattle.core_machine.proofs.FileSteps.{StepsAt, StepsTo}
 use Rattle.core_machine.proofs.FileWritten.{KeepsWritten, keeping_written, none_written, same_written}
 use Rattle.store_machine.specs.Needs.{keys_of}
+use Rattle.store_machine.proofs.Added.{seals_alone}
 
 -- ---- names and store are as they were
 
@@ -43,16 +44,16 @@ claim_stays m n a seg (refusals.Clash key at) is = same m n is.2
 claim_stays m n a seg (refusals.Corrupt slot offset count want got) is = same m n is.1.1
 claim_stays m n a seg refusal is = absurd is
 
-seal_stays : (m n : FileMachine) (a : ℕ) (filled : _) (refusal : Refusal) → RefusesSeal of_files a filled refusal m n → Stays m n
-seal_stays m n a filled refusals.Memory is = same m n is
-seal_stays m n a filled (refusals.Unpinned key) is = same m n is.1
-seal_stays m n a filled (refusals.Full free) is = same m n is.3
-seal_stays m n a filled refusals.Numbers is = same m n is.2
-seal_stays m n a filled refusals.DiskRead is = same m n is.1
-seal_stays m n a filled (refusals.Clash key at) is = same m n is.2
-seal_stays m n a filled (refusals.Corrupt slot offset count want got) is = same m n is.1.1
-seal_stays m n a filled refusals.DiskWrite is = stays_of m n _ is.2 refl refl refl
-seal_stays m n a filled refusal is = absurd is
+seal_stays : (m n : FileMachine) (a : ℕ) (offered : _) (refusal : Refusal) → RefusesSeal of_files a offered refusal m n → Stays m n
+seal_stays m n a offered refusals.Memory is = same m n is
+seal_stays m n a offered (refusals.Unpinned key) is = same m n is.1
+seal_stays m n a offered (refusals.Full free) is = same m n is.3
+seal_stays m n a offered refusals.Numbers is = same m n is.2
+seal_stays m n a offered refusals.DiskRead is = same m n is.1
+seal_stays m n a offered (refusals.Clash key at) is = same m n is.2
+seal_stays m n a offered (refusals.Corrupt slot offset count want got) is = same m n is.1.1
+seal_stays m n a offered refusals.DiskWrite is = stays_of m n _ is.2 refl refl refl
+seal_stays m n a offered refusal is = absurd is
 
 commit_stays : (m n : FileMachine) (a : ℕ) (name value : List ℕ) (refusal : Refusal) → RefusesCommit of_files a name value refusal m n → Stays m n
 commit_stays m n a name value refusals.Memory is = same m n is
@@ -76,7 +77,7 @@ ask bytes step = asked_as (λ root. bytes) step
 
 on_stays : (m n : FileMachine) (a : ℕ) (bytes : List ℕ) (step : StepValue) (refusal : Refusal) → IsNoGcStep step → RefusesOn of_files a (ask bytes step) refusal m n → Stays m n
 on_stays m n a bytes (steps.Claim seg) refusal other is = claim_stays m n a seg refusal is
-on_stays m n a bytes (steps.Seal filled) refusal other is = seal_stays m n a filled refusal is
+on_stays m n a bytes (steps.Seal filled) refusal other is = seal_stays m n a (filled ∷ []) refusal is
 on_stays m n a bytes (steps.Commit name root) refusal other is = commit_stays m n a name bytes refusal is
 on_stays m n a bytes (steps.Delete name) refusal other is = delete_stays m n name refusal is
 on_stays m n a bytes (steps.OpenRead name) refusals.Memory other is = same m n is
@@ -133,12 +134,11 @@ module _ (m n : FileMachine) (a : ℕ) (bytes buf : List ℕ) (t : Store) where
   does (steps.Claim seg) answers.Absent other of is chain = stayed (steps.Claim seg) (Ok answers.Absent) refl refl (same m n is.2) chain
   does (steps.Claim seg) answer other of is chain = absurd is
   does (steps.Seal filled) (answers.Sealed id) other of is chain =
+      let (one, id_is) = seals_alone of_files a filled id 1 m n is in
       record {
-        store = chain.1
-            ∙ sym (ap (λ (x : FileMachine). x.store) is.others);
-        now = sym (ap (λ (x : FileMachine). stored_in x.now) is.others);
-        written =
-            keeping_written (keys_of filled.kind filled.segments) m n (ap (λ (x : FileMachine). x.collection) is.others);
+        store = chain.1 ∙ ap (λ (k : ℕ). with_sealed k filled.kind filled.segments m.store) id_is ∙ sym (ap (λ (x : FileMachine). x.store) one.others);
+        now = sym (ap (λ (x : FileMachine). stored_in x.now) one.others);
+        written = keeping_written (keys_of filled.kind filled.segments) m n (ap (λ (x : FileMachine). x.collection) one.others);
       }
   does (steps.Seal filled) answer other of is chain = absurd is
   does (steps.Commit name root) (answers.Committed sequence) other of is chain = record {

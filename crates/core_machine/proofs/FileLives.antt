@@ -16,6 +16,7 @@ use Rattle.store_core.proofs.Frames.{at_on, written_stays}
 use Rattle.store_machine.specs.Collecting.{Begins, GoesOn}
 use Rattle.store_machine.specs.Needs.{keys_of}
 use Rattle.store_machine.proofs.Beside.{refused_keeps}
+use Rattle.store_machine.proofs.Added.{seals_alone}
 use Rattle.core_machine.specs.Files.{LivesByNeed}
 use Rattle.core_machine.proofs.FileKept.{answers_by, comes, next}
 use Rattle.core_machine.proofs.FileNeeds.{all_fit}
@@ -69,7 +70,8 @@ module _ (m n : FileMachine) (a : ℕ) (bytes buf : List ℕ) (ran : MachineColl
   went (steps.Claim seg) (Ok answers.Held) plain is =
       more_went (steps.Claim seg) (Ok answers.Held) (segment_key seg.kind seg.segment ∷ []) (contains_one (segment_key seg.kind seg.segment)) (runs_as is.others)
   went (steps.Seal filled) (Ok (answers.Sealed id)) plain is =
-      more_went (steps.Seal filled) (Ok (answers.Sealed id)) (keys_of filled.kind filled.segments) (λ key. (λ there. there, λ there. there)) (runs_as is.others)
+      more_went (steps.Seal filled) (Ok (answers.Sealed id)) (keys_of filled.kind filled.segments) (λ key. (λ there. there, λ there. there))
+      (runs_as (seals_alone of_files a filled id 1 m n is).0.others)
   went steps.Begin (Ok answers.Begun) plain is = same_went steps.Begin (Ok answers.Begun) (λ key none. none) (runs_as is.1)
   went (steps.Claim seg) (Ok answers.Absent) plain is = same_went (steps.Claim seg) (Ok answers.Absent) (λ key none. none) (runs_as is.2)
   went (steps.Commit name root) (Ok (answers.Committed sequence)) plain is =

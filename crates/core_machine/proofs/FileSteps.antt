@@ -1,6 +1,5 @@
 -- A step of a core that is at the files of a machine: what is known of it before its parts are proved.
-use Rattle.core_machine.proofs.Prelude.{◌≡◌, ◌⊎◌, inl, inr, true, None, refl, StepValue, ByteSet, HasNoCollisions, IsIn, FileEvent, FileStep, IsNoGcStep, CoreState, IsUp, FileMachine, forget_step, Legal, Running, RootMachine, of_files, of_roots, IsAtFiles, IsOfFile, IsMachine, NamesStep}
-use Rattle.actor_parts.specs.StepValue as steps
+use Rattle.core_machine.proofs.Prelude.{◌≡◌, true, None, ByteSet, HasNoCollisions, IsIn, FileEvent, FileStep, CoreState, IsUp, FileMachine, forget_step, Legal, Running, RootMachine, of_files, of_roots, IsAtFiles, IsOfFile, IsMachine, NamesStep}
 use Rattle.store_machine.specs.Forgetting.{Forgets}
 use Rattle.core_machine.specs.Files.{file_step}
 

@@ -1,5 +1,5 @@
 -- After a step of a collection that did not stop it a core is at the files of its machine, in the machine's store, on a settled disk.
-use Rattle.core_machine.proofs.Prelude.{slice_get, ◌≡◌, inl, inr, ℕ, suc, ◌≤◌, List, [], ◌∷◌, ◌++◌, Option, Some, None, option_map, Result, Ok, Err, refl, sym, ◌∙◌, ap, subst, arith, Answer, StepValue, PlaceMap, HeaderValue, header_of, Next, id_at, CoreCollection, CoreStage, CoreStepsTo, moment, phase_at, KeepsMarks, DiskView, HoldsAt, GoesWell, held_at, IsStoreAfter, Phase, Refusal, ByteSet, IsIn, Store, first_free, free_slots, ids_of, StoreChange, with_sealed, IsSettled, GcEffect, GcRow, CoreGoesOn, IsNotMade, at_moment, Effect, Row, Steps, ChangesTo, FileEvent, IsAt, IsSafeIn, stored_by, CoreState, IsUnderWayIn, AtStore, running_step, first_with, phase_of, stays_settled, Leads, led_to, same_some, FileMachine, Makes, keys_written, written_more, forget_collection, Answers, ByState, LegalBy, Refuses, Found, RunState, RootMachine, of_files, Root, stored_in, answered_by, asked_as, MovesAs, NamesGc, NamesStep, changes_of, SameRun, IsWritten, WroteOnce}
+use Rattle.core_machine.proofs.Prelude.{slice_get, ◌≡◌, inl, inr, ℕ, suc, ◌≤◌, List, [], ◌∷◌, ◌++◌, Option, Some, None, option_map, Result, Ok, Err, refl, sym, ◌∙◌, ap, subst, arith, Answer, StepValue, PlaceMap, HeaderValue, header_of, Next, id_at, CoreCollection, CoreStage, CoreStepsTo, moment, phase_at, KeepsMarks, DiskView, HoldsAt, GoesWell, held_at, IsStoreAfter, Phase, Refusal, ByteSet, IsIn, Store, first_free, free_slots, ids_of, StoreChange, with_sealed, GcEffect, GcRow, CoreGoesOn, IsNotMade, at_moment, Effect, Row, Steps, ChangesTo, FileEvent, IsAt, IsSafeIn, stored_by, CoreState, IsUnderWayIn, AtStore, running_step, first_with, phase_of, Leads, led_to, same_some, FileMachine, Makes, keys_written, written_more, forget_collection, Answers, ByState, LegalBy, Refuses, Found, RunState, RootMachine, of_files, Root, stored_in, answered_by, asked_as, MovesAs, NamesGc, NamesStep, changes_of, SameRun, IsWritten, WroteOnce}
 use Rattle.std.proofs.Common.{Contains, get_or}
 use Rattle.actor_parts.specs.declared.step.Answer.TheVariants as answers
 use Rattle.actor_parts.specs.StepValue as steps

@@ -29,6 +29,7 @@ use Rattle.core_machine.proofs.FileSteps.{StepsAt, StepsTo}
 use Rattle.core_machine.proofs.FileSwept.{swept_at}
 use Rattle.core_machine.proofs.FileWrote.{wrote_on}
 use Rattle.core_machine.proofs.Refined.{core_refines}
+use Rattle.core_machine.proofs.Sealed.{sealed_alone}
 
 -- ---- one step is asked of both machines
 
@@ -138,7 +139,8 @@ module _ {C : Type 0} {state : C → CoreState} {among : ByteSet} {f : FileEvent
   adds_by (steps.Claim seg) is asked given of row harmless =
       claim_adds (IsIn among) m t (state old) (state new) s.at.is_at tells f.event.actor f.event.buf seg f.event.answer asked row harmless
   adds_by (steps.Seal filled) is asked given of row harmless =
-      seal_adds (IsIn among) m t (state old) (state new) s.at.is_at tells f.event.actor f.event.buf filled f.event.answer asked.1 row harmless
+      seal_adds (IsIn among) m t (state old) (state new) s.at.is_at tells f.event.actor f.event.buf filled (sealed_alone m r (state old) s.forgets s.machine filled)
+      f.event.answer asked.1 row harmless
   adds_by (steps.Commit name root) is asked given of row harmless =
       commit_adds (IsIn among) m t (state old) (state new) s.at.is_at tells f.event.actor f.event.buf name f.bytes root f.event.answer of.1 given row
   adds_by steps.ReadNext is asked given of row harmless = subst AddsAs is (reads_add s is)

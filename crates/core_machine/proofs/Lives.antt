@@ -1,5 +1,5 @@
 -- Just the keys of which a predicate holds are live: what a step of the collection leaves of that, made or refused.
-use Rattle.core_machine.proofs.Prelude.{◌≡◌, inl, inr, ℕ, List, ◌+◌, Option, None, Some, refl, sym, ◌∙◌, ap, subst, child_keys, Filter, Mark, Select, HoldsNode, IsWithin, filter_at, first_slot, is_old_slot, moment, IsSafe, IsSafeAt, SweepIsSafe, IsLive, Place, PlaceMap, IsLiveAt, Next, End, Flush, Release, Refusal, ByteSet, IsIn, Stored, Store, HasKey, IsPartialIndexOf, node_key, at_moment, IsAt, CoreState, IsBelowLive, IsClosedAt, IsLiveAtStage, LivesJust}
+use Rattle.core_machine.proofs.Prelude.{◌≡◌, inl, inr, ℕ, List, ◌+◌, Option, None, Some, refl, sym, ◌∙◌, ap, subst, child_keys, Filter, Mark, Select, HoldsNode, IsWithin, filter_at, first_slot, is_old_slot, moment, IsSafe, IsSafeAt, SweepIsSafe, IsLive, Place, PlaceMap, IsLiveAt, Next, End, Flush, Release, Refusal, ByteSet, IsIn, Stored, Store, IsPartialIndexOf, node_key, at_moment, IsAt, CoreState, IsBelowLive, IsClosedAt, IsLiveAtStage, LivesJust}
 use Rattle.std.specs.Prelude.{Contains}
 use Rattle.gc_steps.specs.declared.collection.Collection.{Collection}
 use Rattle.gc_steps.specs.declared.collection.Stage.{Stage}

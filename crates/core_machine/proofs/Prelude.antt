@@ -123,9 +123,9 @@ pub use Rattle.store_machine.specs.Asked.{Asked}
 pub use Rattle.store_machine.specs.ByMap.{FileMachine}
 pub use Rattle.store_machine.specs.Collecting.{DoesNotFit, Gathered, GoesOver, IsCollecting, IsCopyOf, IsRecordOf, Makes, MayBreak, Went, freed_in, ids_before, keys_written, marking, marks_of, next_by, next_of, phase_by, phase_in, sources_in, swept_by}
 pub use Rattle.store_machine.specs.Forgetting.{SameNow, SameState, asked_of, forget_collection, forget_step}
-pub use Rattle.store_machine.specs.Legal.{Answers, ByState, IsAtRightPart, IsLacked, Legal, LegalBy, Refuses, RefusesClaim, RefusesCommit, RefusesDelete, RefusesGcStep, RefusesOn, RefusesSeal, broken_by, with_name, without_name}
+pub use Rattle.store_machine.specs.Legal.{Answers, ByState, IsAtRightPart, Legal, LegalBy, Refuses, RefusesClaim, RefusesCommit, RefusesDelete, RefusesGcStep, RefusesOn, RefusesSeal, broken_by, with_name, without_name}
 pub use Rattle.store_machine.specs.Machine.{Collection as MachineCollection, Found, Machine, Marking, Reading, Recording, RunState, Running, Stopped, Sweeping, all_idle, keeping, part_in, put_at, stopped}
-pub use Rattle.store_machine.specs.Needs.{CollectionNeeds, HasCopy, NamesNeed, NeededSince, OneNeeds, forgotten_beside, keys_kept, values_read}
+pub use Rattle.store_machine.specs.Needs.{CollectionNeeds, HasCopy, IsLacked, NamesNeed, NeededSince, OneNeeds, forgotten_beside, keys_kept, values_read}
 pub use Rattle.store_machine.specs.Opening.{IsGivenBack, IsNamedBy, MayBeFound, MayRefuseOpening, freeing}
 pub use Rattle.store_machine.specs.Remembering.{Adds, AddsBy, AddsToAnswer, IsReady, RootMachine}
 pub use Rattle.store_machine.specs.Runs.{Run}

@@ -8,6 +8,7 @@ use Rattle.actor_parts.specs.Parts.{part_of, with_part}
 use Rattle.actor_parts.specs.StepValue as steps
 use Rattle.refusals.specs.declared.refusal.Refusal.TheVariants as refusals
 use Rattle.store_machine.specs.Machine.{Idle}
+use Rattle.store_machine.proofs.Added.{seals_alone}
 use Rattle.core_machine.proofs.RefusedSteps.{IsNoRead, refused_left}
 
 -- it opens no file, and reads none on
@@ -122,7 +123,8 @@ module _ (m n : FileMachine) (a : ℕ) (bytes buf : List ℕ) (x : ℕ) (file : 
   file_kept steps.Begin (Ok answers.Begun) other is = put_at_other _ (λ f l no. cc) (parts_as is.1)
   file_kept (steps.Claim seg) (Ok answers.Held) other is = put_at_other _ (λ f l no. cc) (parts_as is.others)
   file_kept (steps.Claim seg) (Ok answers.Absent) other is = stays (parts_as is.2)
-  file_kept (steps.Seal filled) (Ok (answers.Sealed id)) other is = put_at_other _ (λ f l no. cc) (parts_as is.others)
+  file_kept (steps.Seal filled) (Ok (answers.Sealed id)) other is =
+      put_at_other _ (λ f l no. cc) (parts_as (seals_alone of_files a filled id 1 m n is).0.others)
   file_kept (steps.Commit name root) (Ok (answers.Committed sequence)) other is = put_at_other Idle (λ f l no. cc) (parts_as is.others)
   file_kept steps.Abort (Ok answers.Aborted) other is = put_at_other Idle (λ f l no. cc) (parts_as is.1)
   file_kept (steps.OpenRead name) (Ok answer) other is = absurd other

@@ -150,7 +150,7 @@ module _ {followed : Bool} (c d : CoreState) (m : M) (at : IsMachine followed m 
   made_by steps.GcStep answer made collects stop count follows =
       gc_row c m at runs d a answer buf made.row made.effect under stop count follows
   made_by (steps.Seal filled) answer made collects stop count follows =
-      unnamed answer (asked.Seal filled) (seal_row c d m at runs a filled buf answer made.row made.effect collects under stop count)
+      unnamed answer (asked.Seal (filled ∷ [])) (seal_row c d m at runs a filled buf answer made.row made.effect collects under stop count)
 
 -- no step is an opening
 by_state : (s : StepValue) (a : ℕ) (told : Result Done Refusal) (m n : M) → ByState of_roots m.state a (asked_by s) told m n → LegalBy of_roots (asked_by s) a told m n

@@ -23,16 +23,16 @@ module _ {V R : Type 0} where
     claim_left a seg (refusals.Corrupt slot offset count want got) is = inl is.1.1
     claim_left a seg refusal is = absurd is
 
-    seal_left : (a : ℕ) (filled : Contents) (refusal : Refusal) → RefusesSeal v a filled refusal m n → IsLeft m n
-    seal_left a filled refusals.Memory is = inl is
-    seal_left a filled (refusals.Unpinned key) is = inl is.1
-    seal_left a filled (refusals.Full free) is = inl is.3
-    seal_left a filled refusals.Numbers is = inl is.2
-    seal_left a filled refusals.DiskRead is = inl is.1
-    seal_left a filled (refusals.Clash key at) is = inl is.2
-    seal_left a filled (refusals.Corrupt slot offset count want got) is = inl is.1.1
-    seal_left a filled refusals.DiskWrite is = inr (_, _, is.2)
-    seal_left a filled refusal is = absurd is
+    seal_left : (a : ℕ) (offered : List Contents) (refusal : Refusal) → RefusesSeal v a offered refusal m n → IsLeft m n
+    seal_left a offered refusals.Memory is = inl is
+    seal_left a offered (refusals.Unpinned key) is = inl is.1
+    seal_left a offered (refusals.Full free) is = inl is.3
+    seal_left a offered refusals.Numbers is = inl is.2
+    seal_left a offered refusals.DiskRead is = inl is.1
+    seal_left a offered (refusals.Clash key at) is = inl is.2
+    seal_left a offered (refusals.Corrupt slot offset count want got) is = inl is.1.1
+    seal_left a offered refusals.DiskWrite is = inr (_, _, is.2)
+    seal_left a offered refusal is = absurd is
 
     commit_left : (a : ℕ) (name : List ℕ) (value : V) (refusal : Refusal) → RefusesCommit v a name value refusal m n → IsLeft m n
     commit_left a name value refusals.Memory is = inl is
@@ -64,7 +64,7 @@ module _ {V R : Type 0} where
 
     on_left : (a : ℕ) (step : Asked V) (refusal : Refusal) → IsNoRead step → RefusesOn v a step refusal m n → IsLeft m n
     on_left a (asked.Claim seg) refusal other is = claim_left a seg refusal is
-    on_left a (asked.Seal filled) refusal other is = seal_left a filled refusal is
+    on_left a (asked.Seal offered) refusal other is = seal_left a offered refusal is
     on_left a (asked.Commit name value) refusal other is = commit_left a name value refusal is
     on_left a (asked.Delete name) refusal other is = delete_left name refusal is
     on_left a (asked.OpenRead name) refusals.Memory other is = inl is

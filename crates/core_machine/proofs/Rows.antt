@@ -503,7 +503,7 @@ module _ {followed : Bool} (c : CoreState) (m : M) (at : IsMachine followed m c)
         by (Writing own) same = ap Writing (sym same)
         by (Reading root rest) same = absurd same
 
-    keeps_at : (a : ℕ) (seg : KindSegment) (may : claiming.MayClaim (part_of c.parts a) seg) → Keeps of_roots a seg.kind (first_unpinned seg) m
+    keeps_at : (a : ℕ) (seg : KindSegment) (may : claiming.MayClaim (part_of c.parts a) seg) → Keeps of_roots a (first_unpinned seg) m
     keeps_at a seg may = record { pins = may.pins; writing = writing_at a may.pins may.writing; children = may.pinned }
 
     -- what the index says of a key, where no collection copied

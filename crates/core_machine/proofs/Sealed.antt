@@ -1,6 +1,6 @@
 -- A seal of the core, as one of the machine of roots.
 use Rattle.core_machine.proofs.Prelude.{arith, ◌≡◌, Bool, true, ◌<◌, ◌≤◌, ℕ, suc, false, List, [], ◌∷◌, slice_set, Option, Some, None, Result, Ok, Err, refl, sym, ◌∙◌, ap, subst, nat_le, leb-true, Root, LAST_ID, Kind, PlaceMap, Segment, segment_key, Answer, PinMap, children_by, pin_by, Refusal, IsValidFor, header_of, IsIndexOf, first_free, first_closed, some_free, with_sealed, free_sealed, IsFirstFree, Represents, SealRow, SealsOne, StopsAfter, counted, Collects, IsKeptKey, CoreState, IsUnderWayIn, some_same, Answers, RunState, Running, Stopped, keeping, put_at, forgotten_beside, of_roots, SameCollection, HasIndex, IsMachine, SameStop, TellsForgotten, answered_by}
-use Rattle.std.proofs.Common.{◌&&◌}
+use Rattle.std.proofs.Common.{◌&&◌, length}
 use Rattle.std.specs.FinMap as finite
 use Rattle.container_meta.specs.Segments.{Contents}
 use Rattle.actor_parts.specs.declared.part.Part.TheVariants as core
@@ -20,6 +20,14 @@ use Rattle.store_machine.specs.Asked as asked
 use Rattle.store_machine.specs.Legal.{HasSlotAndId, Keeps}
 use Rattle.store_machine.specs.Machine.{Writing}
 use Rattle.store_machine.specs.Needs.{first_unkept, keys_of, or_else, with_pins}
+use Rattle.store_machine.specs.Offers.{first_unkept_in, sealed_in, stores_with_some}
+use Rattle.store_machine.proofs.Added.{alone_sealed, one_sealed, unkept_alone}
+use Rattle.store_machine.specs.Forgetting.{Forgets}
+use Rattle.container_meta.specs.Spelling.{IsHeader}
+use Rattle.disk_format.specs.declared.numbers.TheConstants.{RESERVE}
+use Rattle.store_model.specs.Image.{Store}
+use Rattle.store_model.specs.Slots.{free_slots}
+use Rattle.store_machine.specs.ByMap.{FileMachine}
 use Rattle.core_machine.specs.Refines.{SameParts}
 use Rattle.core_machine.proofs.Beside.{same_beside}
 use Rattle.core_machine.proofs.KeysForgotten.{written_told}
@@ -48,25 +56,45 @@ second_true false b both = absurd cc
 none_forgotten : (keys forgotten : List (List ℕ)) → forgotten ≡ [] → forgotten_beside keys forgotten ≡ []
 none_forgotten keys forgotten is = ap (forgotten_beside keys) is
 
+-- a slot is free beside the reserve, and an id is left
+has_room : {followed : Bool} (m : M) (c : CoreState) → IsMachine followed m c → ((slot : ℕ) × sealing.HasSlot c.tables slot)
+    → (RESERVE < free_slots m.store.held) × (m.last_id < LAST_ID)
+has_room m c at (slot, has) = (
+  ((has.slot_is c.disk.size None).store_has m.store at.represents at.valid at.free).spare,
+  subst (λ (id : ℕ). id < LAST_ID) (sym at.last_id) has.below,
+)
+
+-- so the one container that is offered is sealed
+pub sealed_alone : (m : FileMachine) (r : M) (c : CoreState) → Forgets m r → IsMachine true r c → (filled : Contents) → ((slot : ℕ) × sealing.HasSlot c.tables slot)
+    → sealed_in (filled ∷ []) m ≡ filled ∷ []
+sealed_alone m r c same at filled has =
+    let room = has_room r c at has in
+    alone_sealed filled m (subst (λ (s : Store). RESERVE < free_slots s.held) same.store room.0) (subst (λ (id : ℕ). id < LAST_ID) same.last_id room.1)
+
+-- a container that has a header has a segment
+some_segments : (id : ℕ) (kind : Kind) (segments : List Segment) → IsHeader (header_of id kind segments) → 1 ≤ length segments
+some_segments id kind [] right = absurd (let both = right.count in cc)
+some_segments id kind (x ∷ xs) right = omega arith
+
 module _ {followed : Bool} (c d : CoreState) (m : M) (at : IsMachine followed m c) (runs : m.state ≡ Running) (a : ℕ) (filled : Contents) (buf : List ℕ) where
   own : HasIndex followed m.swept m.forgotten m.store.held c.known
   own = at.index runs
 
   abbrev Left : Result Answer Refusal → Type 0
-  Left answer = (n : M) × Answers of_roots a (asked.Seal filled) (answered_by answer buf) m n × IsMachine followed n d
+  Left answer = (n : M) × Answers of_roots a (asked.Seal (filled ∷ [])) (answered_by answer buf) m n × IsMachine followed n d
 
-  abbrev keeps : pinning.MayKeep (part_of c.parts a) filled → Keeps of_roots a filled.kind (first_unkept filled.kind filled.segments) m
+  unkept : (pins : PinMap) → first_unkept_in (filled ∷ []) pins ≡ pinning.first_unpinned_of filled.kind filled.segments pins
+  unkept pins = unkept_alone filled pins ∙ unkept_same filled.kind filled.segments pins
+
+  abbrev keeps : pinning.MayKeep (part_of c.parts a) filled → Keeps of_roots a (first_unkept_in (filled ∷ [])) m
   keeps may = record {
     pins = may.pins;
     writing = writing_at c m at runs d a may.pins may.writing;
-    children = unkept_same filled.kind filled.segments may.pins ∙ may.pinned;
+    children = unkept may.pins ∙ may.pinned;
   }
 
-  has_slot : pinning.MayKeep (part_of c.parts a) filled → ((slot : ℕ) × sealing.HasSlot c.tables slot) → HasSlotAndId of_roots a filled m
-  has_slot may (slot, has) = (
-    (keeps may, ((has.slot_is c.disk.size None).store_has m.store at.represents at.valid at.free).spare),
-    subst (λ (id : ℕ). id < LAST_ID) (sym at.last_id) has.below,
-  )
+  has_slot : pinning.MayKeep (part_of c.parts a) filled → ((slot : ℕ) × sealing.HasSlot c.tables slot) → HasSlotAndId of_roots a (filled ∷ []) m
+  has_slot may has = let room = has_room m c at has in ((keeps may, room.0), room.1)
 
   -- ---- one that is done
 
@@ -158,29 +186,54 @@ module _ {followed : Bool} (c d : CoreState) (m : M) (at : IsMachine followed m 
   pub seal_row : (answer : Result Answer Refusal) → SealRow filled a answer c d → SealsOne filled answer c d → Collects (steps.Seal filled) answer c d
       → IsUnderWayIn c.tables.held c.collection → StopsAfter (steps.Seal filled) answer c.acknowledged d.stop → d.acknowledged ≡ counted answer c.acknowledged
       → Left answer
-  seal_row (Ok (answers.Sealed id)) is effect collects under stop count = (
-    sealed id is effect count stop under collects,
-    record {
-      may = keeps is.may;
-      fits = λ known. absurd known;
-      id_is = omega (arith, is.id_is, at.last_id);
-      can = can id is effect count stop under collects;
-      others = refl;
-    },
-    seal_done id is effect count stop under collects,
-  )
+  seal_row (Ok (answers.Sealed id)) is effect collects under stop count =
+      let next : id ≡ suc m.last_id = omega (arith, is.id_is, at.last_id) in
+      let may_seal = can id is effect count stop under collects in
+      let done = seal_done id is effect count stop under collects in
+      let left : m.last_id < LAST_ID = omega (arith, next, done.last_within) in (
+        sealed id is effect count stop under collects,
+        record {
+          offer = record {
+            some = omega arith;
+            few = omega arith;
+            leaves = λ two. absurd (omega (arith, two));
+            segments = (some_segments id filled.kind filled.segments may_seal.right, tt);
+          };
+          may = keeps is.may;
+          count_is = sym (one_sealed (free_slots m.store.held) m.last_id may_seal.slot left);
+          some = omega arith;
+          fits = λ known. absurd known;
+          id_is = omega (arith, next);
+          adds = (
+            sealed id is effect count stop under collects,
+            record {
+              pins = is.may.pins;
+              writing = writing_at c m at runs d a is.may.pins is.may.writing;
+              can = subst (λ (k : ℕ). CanSeal k filled.kind filled.segments m.store) next may_seal;
+              others = ap (λ (k : ℕ). record (put_at m a (Writing (pins id is effect count stop under collects))) {
+                store = with_sealed k filled.kind filled.segments m.store;
+                last_id = k;
+                forgotten = forgotten_beside (keys_of filled.kind filled.segments) m.forgotten;
+                collection = keeping (keys_of filled.kind filled.segments) m.collection;
+              }) next;
+            },
+            refl,
+          );
+        },
+        done,
+      )
   seal_row (Err refusals.Memory) row effect collects under stop count =
       (m, refl, as_it_was c m at runs d (left_by c m at runs d effect.kept effect.disk.later.size_is count (still refusals.Memory collects) stop) row.1)
   seal_row (Err (refusals.WrongPart kind)) row effect collects under stop count =
-      wrong c m at runs d a (asked.Seal filled) kind kinds.Writing refl row.0.0 row.0.1
+      wrong c m at runs d a (asked.Seal (filled ∷ [])) kind kinds.Writing refl row.0.0 row.0.1
       (left_by c m at runs d effect.kept effect.disk.later.size_is count (still (refusals.WrongPart kind) collects) stop) row.1
   seal_row (Err (refusals.Unpinned key)) row effect collects under stop count =
       let own = row.0.0 in
       let is = row.0.1 in (
         m,
         (
-          right_at c m at runs d a (asked.Seal filled) kinds.Writing refl (ap core_kinds.kind_of is),
-          ((own, writing_at c m at runs d a own is, unkept_same filled.kind filled.segments own ∙ row.0.2), refl),
+          right_at c m at runs d a (asked.Seal (filled ∷ [])) kinds.Writing refl (ap core_kinds.kind_of is),
+          ((own, writing_at c m at runs d a own is, unkept own ∙ row.0.2), refl),
         ),
         as_it_was c m at runs d (left_by c m at runs d effect.kept effect.disk.later.size_is count (still (refusals.Unpinned key) collects) stop) row.1,
       )
@@ -188,14 +241,14 @@ module _ {followed : Bool} (c d : CoreState) (m : M) (at : IsMachine followed m 
       let may = row.0.0 in
       let few = row.0.1.store_has m.store at.represents at.valid at.free in (
         m,
-        (right_at c m at runs d a (asked.Seal filled) kinds.Writing refl (ap core_kinds.kind_of may.writing), (keeps may, few.0, few.1, refl)),
+        (right_at c m at runs d a (asked.Seal (filled ∷ [])) kinds.Writing refl (ap core_kinds.kind_of may.writing), (keeps may, few.0, few.1, refl)),
         as_it_was c m at runs d (left_by c m at runs d effect.kept effect.disk.later.size_is count (still (refusals.Full free) collects) stop) row.1,
       )
   seal_row (Err refusals.Numbers) row effect collects under stop count =
       let may = row.0.0 in (
         m,
         (
-          right_at c m at runs d a (asked.Seal filled) kinds.Writing refl (ap core_kinds.kind_of may.writing),
+          right_at c m at runs d a (asked.Seal (filled ∷ [])) kinds.Writing refl (ap core_kinds.kind_of may.writing),
           ((keeps may, row.0.1.0.store_has m.store at.represents at.valid at.free), subst (λ (id : ℕ). LAST_ID ≤ id) (sym at.last_id) row.0.1.1, refl),
         ),
         as_it_was c m at runs d (left_by c m at runs d effect.kept effect.disk.later.size_is count (still refusals.Numbers collects) stop) row.1,
@@ -203,27 +256,27 @@ module _ {followed : Bool} (c d : CoreState) (m : M) (at : IsMachine followed m 
   seal_row (Err refusals.DiskRead) row effect collects under stop count =
       let may = row.0.0 in (
         m,
-        (right_at c m at runs d a (asked.Seal filled) kinds.Writing refl (ap core_kinds.kind_of may.writing), (has_slot may row.0.1, refl)),
+        (right_at c m at runs d a (asked.Seal (filled ∷ [])) kinds.Writing refl (ap core_kinds.kind_of may.writing), (has_slot may row.0.1, refl)),
         as_it_was c m at runs d (left_by c m at runs d effect.kept effect.disk.later.size_is count (still refusals.DiskRead collects) stop) row.1,
       )
   seal_row (Err (refusals.Clash key other)) row effect collects under stop count =
       let may = row.0.0 in (
         m,
-        (right_at c m at runs d a (asked.Seal filled) kinds.Writing refl (ap core_kinds.kind_of may.writing), (has_slot may row.0.1, (λ known. absurd known), refl)),
+        (right_at c m at runs d a (asked.Seal (filled ∷ [])) kinds.Writing refl (ap core_kinds.kind_of may.writing), (has_slot may row.0.1, (λ known. absurd known), refl)),
         as_it_was c m at runs d (left_by c m at runs d effect.kept effect.disk.later.size_is count (still (refusals.Clash key other) collects) stop) row.1,
       )
   seal_row (Err (refusals.Corrupt slot offset many want got)) row effect collects under stop count =
       let may = row.0.0 in (
         m,
-        (right_at c m at runs d a (asked.Seal filled) kinds.Writing refl (ap core_kinds.kind_of may.writing), (has_slot may row.0.1, ((λ known. known), refl))),
+        (right_at c m at runs d a (asked.Seal (filled ∷ [])) kinds.Writing refl (ap core_kinds.kind_of may.writing), (has_slot may row.0.1, ((λ known. known), refl))),
         as_it_was c m at runs d (left_by c m at runs d effect.kept effect.disk.later.size_is count (still (refusals.Corrupt slot offset many want got) collects) stop) row.1,
       )
   -- the container may be there, and the index may have its places: it is stopped
   seal_row (Err refusals.DiskWrite) row effect collects under stop count =
       let may = row.0.0 in
-      let stores = with_sealed (suc m.last_id) filled.kind filled.segments m.store ∷ [] in (
+      let stores = stores_with_some m.last_id (sealed_in (filled ∷ []) m) m.store in (
         record m { state = Stopped None stores },
-        (right_at c m at runs d a (asked.Seal filled) kinds.Writing refl (ap core_kinds.kind_of may.writing), (has_slot may row.0.1, (λ known. absurd known), refl)),
+        (right_at c m at runs d a (asked.Seal (filled ∷ [])) kinds.Writing refl (ap core_kinds.kind_of may.writing), (has_slot may row.0.1, (λ known. absurd known), refl)),
         stopped_at c m at runs d None stores effect.kept effect.disk.later.size_is row.1 count (still refusals.DiskWrite collects) refusals.DiskWrite stop,
       )
   seal_row (Err (refusals.Damaged byte why)) row effect collects under stop count = absurd (let wrong : None ≡ Some own.places = sym row.0.2 ∙ own.known_is in cc)

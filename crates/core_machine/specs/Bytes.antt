@@ -1,6 +1,6 @@
 -- What a step does to the bytes of a disk that tells its content: what it compared with, and what it may have changed (docs/MODEL.md, 'The
 -- running store').
-use Rattle.std.specs.Prelude.{◌≡◌, ◌⊎◌, ◌+◌, ◌-◌, ◌<◌, ◌≤◌, ℕ, List, [], ◌∷◌, length, slice_get, Option, Some, None, Result, Ok, Err}
+use Rattle.std.specs.Prelude.{◌≡◌, ◌⊎◌, ◌+◌, ◌-◌, ◌<◌, ◌≤◌, ℕ, List, [], ◌∷◌, length, slice_get, take, Option, Some, None, Result, Ok, Err}
 use Rattle.std.specs.List.{AllByRecursion}
 use Rattle.actor_parts.specs.Segments.{pin_of}
 use Rattle.base_model.specs.Bytes.{range}
@@ -25,6 +25,7 @@ use Rattle.store_machine.specs.Done.{Done}
 use Rattle.store_machine.specs.Done as done
 use Rattle.store_machine.specs.Machine.{Found, Stepped, Stopped}
 use Rattle.store_machine.specs.Needs.{NamesNeed, DifferBy}
+use Rattle.store_machine.specs.Offers.{AnyByRecursion, placed, sealed_in}
 use Rattle.store_machine.specs.Opening.{MayBeFound}
 use Rattle.store_machine.specs.Values.{of_files}
 
@@ -53,7 +54,7 @@ pub record ClashesWith (seg : KindSegment) (content key : List ℕ) (at : Differ
   pub digest : sha256 (bytes_at copy.place content) ≡ sha256 seg.segment.bytes
   pub differ : DifferBy at seg.segment.bytes (bytes_at copy.place content)
 
--- one of the segments does
+-- one of its segments does
 abbrev pub OneClashes : Contents → List ℕ → List ℕ → Difference → Type 0
 OneClashes filled content key at = (index : ℕ) × ((s : Segment) × ((slice_get filled.segments index ≡ Some s)
     × ClashesWith (record { kind = filled.kind; segment = s }) content key at))
@@ -82,6 +83,11 @@ SameStore old new = OfStore old (λ store. SameBut (Unit {0}) (λ half cell. ⊥
 abbrev pub SameButSlot : List ℕ → List ℕ → Type 0
 SameButSlot old new =
     OfStore old (λ store. SameBut (Unit {0}) (λ half cell. ⊥) (λ slot. slot ≡ first_free store.held) store.slots old new)
+
+-- or all but those that these containers are for, each the closed slot of least number that the ones before it leave
+abbrev pub SameButSlots : ℕ → List Contents → List ℕ → List ℕ → Type 0
+SameButSlots last cs old new = OfStore old (λ store. SameBut (Unit {0}) (λ half cell. ⊥)
+    (λ slot. AnyByRecursion (λ p. slot ≡ p.slot) (placed last cs store)) store.slots old new)
 
 -- or all but the cell after the records; of the journal, where that is one of its half
 abbrev pub SameButRecord : List ℕ → List ℕ → Type 0
@@ -136,11 +142,13 @@ LeavesUnopened refusal m n old new = ((n ≡ m) × (new ≡ old))
 abbrev pub BytesOf : Asked (List ℕ) → Result Done Refusal → FileMachine → FileMachine → List ℕ → List ℕ → Type 0
 BytesOf (asked.Claim seg) (Ok done.Held) m n old new = (new ≡ old) × Holds old seg
 BytesOf (asked.Claim seg) (Err (Clash key at)) m n old new = (new ≡ old) × ClashesWith seg old key at
-BytesOf (asked.Seal filled) (Ok answer) m n old new = SameButSlot old new × AllHeld new filled
-BytesOf (asked.Seal filled) (Err (Clash key at)) m n old new = SameStore old new × OneClashes filled old key at
-BytesOf (asked.Seal filled) (Err DiskWrite) m n old new = SameButSlot old new
-BytesOf (asked.Seal filled) (Err (IsStopped at)) m n old new = new ≡ old
-BytesOf (asked.Seal filled) (Err refusal) m n old new = SameStore old new
+BytesOf (asked.Seal offered) (Ok (done.Sealed id count)) m n old new =
+    SameButSlots m.last_id (take count offered) old new × AllByRecursion (AllHeld new) (take count offered)
+BytesOf (asked.Seal offered) (Err (Clash key at)) m n old new =
+    SameStore old new × AnyByRecursion (λ filled. OneClashes filled old key at) (sealed_in offered m)
+BytesOf (asked.Seal offered) (Err DiskWrite) m n old new = SameButSlots m.last_id (sealed_in offered m) old new
+BytesOf (asked.Seal offered) (Err (IsStopped at)) m n old new = new ≡ old
+BytesOf (asked.Seal offered) (Err refusal) m n old new = SameStore old new
 BytesOf (asked.Commit name value) (Ok answer) m n old new = SameButRecord old new
 BytesOf (asked.Commit name value) (Err DiskWrite) m n old new = SameButRecord old new
 BytesOf (asked.Delete name) (Ok answer) m n old new = SameButRecord old new

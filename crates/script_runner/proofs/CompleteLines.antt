@@ -28,7 +28,7 @@ Tells was = (content : List ℕ) × (was ≡ Some content)
 -- steps of no session have no segment
 none_has : (step : Asked (List ℕ)) (seg : KindSegment) → IsOther of_files step → HasSegment step seg → ⊥
 none_has (asked.Claim offered) seg other has = other
-none_has (asked.Seal filled) seg other has = other
+none_has (asked.Seal offered) seg other has = other
 none_has step seg other has = has
 
 may_other : (line : LineValue) (reply : ReplyValue) → (line ≡ lines.Reopen → ⊥) → ((refusal : Refusal) → reply ≡ replies.Refused refusal → IsLeft refusal) → MayReply line reply

@@ -53,18 +53,20 @@ pub due_node : (s : Session) (step : Asked (List ℕ)) (seg : KindSegment) → I
 due_node s (asked.Claim offered) seg (dues.Claim, is, asks) one tree =
     subst (λ (x : KindSegment). IsNodeOfFile s.given x.segment.bytes) (sym one)
     (offered_node is.session is.history is.has s.given is.given_is offered asks (ap (λ (x : KindSegment). x.kind) (sym one) ∙ tree))
-due_node s (asked.Seal filled) seg (dues.Seal kind, is, asks) (kind_is, (index, there)) tree =
-    sealed_node is.session is.history is.has s.given is.given_is kind index seg.segment
-    (ap (λ (c : Contents). slice_get c.segments index) (sym asks) ∙ there)
-    (sealed_kind kind (ap (λ (c : Contents). c.kind) (sym asks) ∙ sym kind_is ∙ tree))
+due_node s (asked.Seal offered) seg (dues.Seal kind, is, asks) one tree = by (subst (λ (cs : List Contents). HasSegment (asked.Seal cs) seg) asks one)
   where
     sealed_kind : (k : Kind) → (open_of is.session k).kind ≡ Tree → k ≡ Tree
     sealed_kind Tree same = refl
     sealed_kind Leaf same = absurd (let wrong : Leaf ≡ Tree = sym (waiting.session_of is.session is.history is.has).data_kind ∙ same in cc)
+
+    by : HasSegment (asked.Seal (open_of is.session kind ∷ [])) seg → IsNodeOfFile s.given seg.segment.bytes
+    by (inl (kind_is, (index, there))) =
+        sealed_node is.session is.history is.has s.given is.given_is kind index seg.segment there (sealed_kind kind (sym kind_is ∙ tree))
+    by (inr none) = absurd none
 due_node s (asked.Claim offered) seg (dues.Seal kind, is, asks) one tree = absurd asks
 due_node s (asked.Claim offered) seg (dues.Nothing, is, asks) one tree = absurd asks
-due_node s (asked.Seal filled) seg (dues.Claim, is, asks) one tree = absurd asks
-due_node s (asked.Seal filled) seg (dues.Nothing, is, asks) one tree = absurd asks
+due_node s (asked.Seal offered) seg (dues.Claim, is, asks) one tree = absurd asks
+due_node s (asked.Seal offered) seg (dues.Nothing, is, asks) one tree = absurd asks
 due_node s step seg due one tree = absurd one
 
 -- ---- nodes of one digest

@@ -1,15 +1,18 @@
 -- Why a step of a machine that runs is refused, where no call of the disk fails and nothing clashes; and that it runs on.
 use Rattle.script_runner.proofs.Prelude.{◌≡◌, ◌⊎◌, inl, inr, ◌∙◌, ℕ, List, [], ◌∷◌, Result, Ok, Err, refl, ap, subst, Contents, KindSegment, Difference, Refusal, Asked, FileMachine, HasSegment, Answers, ByState, Legal, RunState, Running, of_files, IsNoOpening, ClashesWith, IsLeft, IsUnblamed}
+use Rattle.std.proofs.Common.{suc, take, zero}
 use Rattle.refusals.specs.declared.refusal.Refusal.TheVariants as refusals
 use Rattle.script_lines.specs.ReplyValue as replies
 use Rattle.store_machine.specs.Asked as asked
 use Rattle.store_machine.specs.Done.{Done}
 use Rattle.store_machine.specs.Done as done
 use Rattle.store_machine.specs.Legal.{Does, Refuses, RefusesClaim, RefusesCommit, RefusesDelete, RefusesGcStep, RefusesOn, RefusesSeal}
+use Rattle.store_machine.specs.Offers.{AnyByRecursion}
 use Rattle.store_machine.specs.Opening.{MayRefuseOpening}
 use Rattle.store_machine.specs.Values.{StaysAt}
+use Rattle.store_machine.proofs.Added.{each_added}
 use Rattle.store_machine.proofs.Writers.{by_state}
-use Rattle.core_machine.specs.Bytes.{BytesOf}
+use Rattle.core_machine.specs.Bytes.{BytesOf, OneClashes}
 
 -- ---- a step that is done
 
@@ -18,7 +21,8 @@ pub does_run : (a : ℕ) (step : Asked (List ℕ)) (answer : Done) (m n : FileMa
 does_run a asked.Begin done.Begun m n none runs (was, others) = ap (λ (x : FileMachine). x.state) others ∙ runs
 does_run a (asked.Claim seg) done.Held m n none runs does = ap (λ (x : FileMachine). x.state) does.others ∙ runs
 does_run a (asked.Claim seg) done.Absent m n none runs (keeps, lacks, others) = ap (λ (x : FileMachine). x.state) others ∙ runs
-does_run a (asked.Seal filled) (done.Sealed id) m n none runs does = ap (λ (x : FileMachine). x.state) does.others ∙ runs
+does_run a (asked.Seal offered) (done.Sealed id count) m n none runs does =
+    each_added a (λ (x : FileMachine). x.state ≡ Running) (λ c k l one up. ap (λ (x : FileMachine). x.state) one.others ∙ up) (take count offered) m n does.adds runs
 does_run a (asked.Commit name value) (done.Committed sequence) m n none runs does = ap (λ (x : FileMachine). x.state) does.others ∙ runs
 does_run a asked.Abort done.Aborted m n none runs (kind, others) = ap (λ (x : FileMachine). x.state) others ∙ runs
 does_run a (asked.OpenRead name) (done.Opened count) m n none runs (named, was, (value, rest, got, starts, counts, others)) = ap (λ (x : FileMachine). x.state) others ∙ runs
@@ -33,7 +37,7 @@ does_run a asked.GcStep (done.Collected freed copied) m n none runs does = ap (�
 does_run a asked.Stat (done.Counted files segments bytes used free) m n none runs (is, others) = ap (λ (x : FileMachine). x.state) others ∙ runs
 does_run a asked.Begin answer m n none runs does = absurd does
 does_run a (asked.Claim seg) answer m n none runs does = absurd does
-does_run a (asked.Seal filled) answer m n none runs does = absurd does
+does_run a (asked.Seal offered) answer m n none runs does = absurd does
 does_run a (asked.Commit name value) answer m n none runs does = absurd does
 does_run a asked.Abort answer m n none runs does = absurd does
 does_run a (asked.OpenRead name) answer m n none runs does = absurd does
@@ -56,6 +60,16 @@ Left refusal n = (IsLeft refusal ⊎ ((key : List ℕ) × (refusal ≡ refusals.
 abbrev pub NoClash : Asked (List ℕ) → List ℕ → Type 0
 NoClash step content = (seg : KindSegment) (key : List ℕ) (at : Difference) → HasSegment step seg → ClashesWith seg content key at → ⊥
 
+-- so none of the containers that are sealed has one
+none_clashes : (content key : List ℕ) (at : Difference) (cs : List Contents) (k : ℕ) → NoClash (asked.Seal cs) content
+    → AnyByRecursion (λ c. OneClashes c content key at) (take k cs) → ⊥
+none_clashes content key at cs zero clear none = none
+none_clashes content key at [] (suc k) clear none = none
+none_clashes content key at (c ∷ cs) (suc k) clear (inl one) =
+    clear (record { kind = c.kind; segment = one.1.0 }) key at (inl (refl, (one.0, one.1.1.0))) one.1.1.1
+none_clashes content key at (c ∷ cs) (suc k) clear (inr more) =
+    none_clashes content key at cs k (λ seg other differs has clash. clear seg other differs (inr has) clash) more
+
 module _ (m n : FileMachine) (runs : m.state ≡ Running) where
   still : n ≡ m → n.state ≡ Running
   still is = ap (λ (x : FileMachine). x.state) is ∙ runs
@@ -70,18 +84,18 @@ module _ (m n : FileMachine) (runs : m.state ≡ Running) where
     claim_left a seg (refusals.Corrupt slot offset count want got) (keeps, (unknown, others)) bytes calm clear = absurd (unknown tt)
     claim_left a seg refusal refuses bytes calm clear = absurd refuses
 
-    seal_left : (a : ℕ) (filled : Contents) (refusal : Refusal) → RefusesSeal of_files a filled refusal m n → BytesOf (asked.Seal filled) (Err refusal) m n old new
-        → IsUnblamed (replies.Refused refusal) → NoClash (asked.Seal filled) old → Left refusal n
-    seal_left a filled refusals.Memory others bytes calm clear = (inl tt, still others)
-    seal_left a filled (refusals.Unpinned key) (is, others) bytes calm clear = (inr (key, refl), still others)
-    seal_left a filled (refusals.Full free) (keeps, is, few, others) bytes calm clear = (inl few, still others)
-    seal_left a filled refusals.Numbers (slot, none, others) bytes calm clear = (inl tt, still others)
-    seal_left a filled refusals.DiskRead refuses bytes calm clear = absurd calm
-    seal_left a filled (refusals.Clash key at) refuses bytes calm clear =
-        let other = bytes.1 in absurd (clear (record { kind = filled.kind; segment = other.1.0 }) key at (refl, (other.0, other.1.1.0)) other.1.1.1)
-    seal_left a filled (refusals.Corrupt at offset count want got) (slot, (unknown, others)) bytes calm clear = absurd (unknown tt)
-    seal_left a filled refusals.DiskWrite refuses bytes calm clear = absurd calm
-    seal_left a filled refusal refuses bytes calm clear = absurd refuses
+    seal_left : (a : ℕ) (offered : List Contents) (refusal : Refusal) → RefusesSeal of_files a offered refusal m n → BytesOf (asked.Seal offered) (Err refusal) m n old new
+        → IsUnblamed (replies.Refused refusal) → NoClash (asked.Seal offered) old → Left refusal n
+    seal_left a offered refusals.Memory others bytes calm clear = (inl tt, still others)
+    seal_left a offered (refusals.Unpinned key) (is, others) bytes calm clear = (inr (key, refl), still others)
+    seal_left a offered (refusals.Full free) (keeps, is, few, others) bytes calm clear = (inl few, still others)
+    seal_left a offered refusals.Numbers (slot, none, others) bytes calm clear = (inl tt, still others)
+    seal_left a offered refusals.DiskRead refuses bytes calm clear = absurd calm
+    seal_left a offered (refusals.Clash key at) refuses bytes calm clear =
+        absurd (none_clashes old key at offered _ clear bytes.1)
+    seal_left a offered (refusals.Corrupt at offset count want got) (slot, (unknown, others)) bytes calm clear = absurd (unknown tt)
+    seal_left a offered refusals.DiskWrite refuses bytes calm clear = absurd calm
+    seal_left a offered refusal refuses bytes calm clear = absurd refuses
 
     commit_left : (a : ℕ) (name value : List ℕ) (refusal : Refusal) → RefusesCommit of_files a name value refusal m n → IsUnblamed (replies.Refused refusal) → Left refusal n
     commit_left a name value refusals.Memory others calm = (inl tt, still others)
@@ -119,7 +133,7 @@ module _ (m n : FileMachine) (runs : m.state ≡ Running) where
     on_left : (a : ℕ) (step : Asked (List ℕ)) (refusal : Refusal) → RefusesOn of_files a step refusal m n → BytesOf step (Err refusal) m n old new
         → IsUnblamed (replies.Refused refusal) → NoClash step old → Left refusal n
     on_left a (asked.Claim seg) refusal refuses bytes calm clear = claim_left a seg refusal refuses bytes calm clear
-    on_left a (asked.Seal filled) refusal refuses bytes calm clear = seal_left a filled refusal refuses bytes calm clear
+    on_left a (asked.Seal offered) refusal refuses bytes calm clear = seal_left a offered refusal refuses bytes calm clear
     on_left a (asked.Commit name value) refusal refuses bytes calm clear = commit_left a name value refusal refuses calm
     on_left a (asked.OpenRead name) refusals.Memory others bytes calm clear = (inl tt, still others)
     on_left a (asked.OpenRead name) refusals.BadName (bad, others) bytes calm clear = (inl tt, still others)

@@ -1,11 +1,12 @@
 -- What steps that are none of a collection leave of one, and of the containers.
-use Rattle.store_machine.proofs.Prelude.{◌≡◌, ◌≢◌, ◌⊎◌, ◌<◌, inl, inr, ℕ, suc, [], ◌∷◌, ◌++◌, Option, Some, None, Result, Ok, Err, refl, sym, ◌∙◌, ap, subst, pin_of, KindSegment, segment_key, HeaderValue, header_of, Put, Gone, RESERVE, Refusal, Store, first_free, free_slots, with_slot, with_change, Asked, IsSealOf, Done, Answers, ByState, Claims, Does, Legal, LegalBy, Refuses, Seals, with_name, without_name, RefusesClaim, RefusesCommit, RefusesDelete, RefusesGcStep, RefusesOn, RefusesRead, RefusesSeal, Collection, Machine, Idle, Writing, Reading, RunState, Running, Stopped, Stepped, keeping, one_more, put_at, keys_of, Values}
-use Rattle.std.proofs.Common.{List}
+use Rattle.store_machine.proofs.Prelude.{◌≡◌, ◌≢◌, ◌⊎◌, ◌↔◌, ◌+◌, arith, inl, inr, ℕ, [], ◌∷◌, ◌++◌, Option, Some, None, Result, Ok, Err, refl, sym, ◌∙◌, ap, subst, pin_of, KindSegment, segment_key, HeaderValue, Put, Gone, Refusal, Store, with_change, Asked, IsSealOf, Done, Answers, ByState, Claims, Does, Legal, LegalBy, Refuses, Seals, with_name, without_name, RefusesClaim, RefusesCommit, RefusesDelete, RefusesGcStep, RefusesOn, RefusesRead, RefusesSeal, Collection, Machine, Idle, Writing, Reading, RunState, Running, Stopped, Stepped, keeping, one_more, put_at, Values}
+use Rattle.std.proofs.Common.{List, take}
 use Rattle.std.specs.FinMap as finite
 use Rattle.container_meta.specs.Segments.{Contents}
 use Rattle.refusals.specs.declared.refusal.Refusal.TheVariants as refusals
 use Rattle.store_machine.specs.Asked as asked
 use Rattle.store_machine.specs.Done as done
+use Rattle.store_machine.specs.Offers.{AddsContainers, IsHeaderOfOne}
 
 module _ {V R : Type 0} where
   -- the containers stay, the last id and the collection
@@ -21,13 +22,17 @@ module _ {V R : Type 0} where
     collection = ap (λ (x : Machine V R). x.collection) is;
   }
 
-  -- Of a collection that runs nothing but the keys that are needed is another; and the containers stay, or one more was sealed.
-  pub record GoesBeside (s : Stepped V) (c : Collection V) (m n : Machine V R) : Type 0 where
+  -- of a collection that runs nothing but the keys that are needed is another, and the containers stay
+  pub record StaysBeside (c : Collection V) (m n : Machine V R) : Type 0 where
     pub keys : List (List ℕ)
     pub runs : n.collection ≡ Some (record c { keys = keys })
-    pub containers : ((n.store.held ≡ m.store.held) × (n.last_id ≡ m.last_id) × ((h : HeaderValue) → ¬ (IsSealOf s h)))
-        ⊎ ((h : HeaderValue) × IsSealOf s h × (RESERVE < free_slots m.store.held) × (h.id ≡ suc m.last_id)
-        × (n.store.held ≡ with_slot (first_free m.store.held) h m.store.held) × (n.last_id ≡ suc m.last_id))
+    pub held : n.store.held ≡ m.store.held
+    pub last : n.last_id ≡ m.last_id
+
+  -- so it is, and nothing was sealed; or these containers were
+  abbrev pub GoesBeside : Stepped V → Collection V → Machine V R → Machine V R → Type 0
+  GoesBeside s c m n = (StaysBeside c m n × ((h : HeaderValue) → ¬ (IsSealOf s h)))
+      ⊎ ((a : ℕ) × (cs : List Contents) × AddsContainers a cs m n × ((h : HeaderValue) → IsSealOf s h ↔ IsHeaderOfOne m.last_id cs h))
 
   module _ (v : Values V R) where
     -- ---- refused
@@ -47,16 +52,16 @@ module _ {V R : Type 0} where
       collection = ap (λ (x : Machine V R). x.collection) is;
     }
 
-    seal_keeps : (a : ℕ) (filled : Contents) (refusal : Refusal) (m n : Machine V R) → RefusesSeal v a filled refusal m n → SameStore m n
-    seal_keeps a filled refusals.Memory m n others = same_of m n others
-    seal_keeps a filled (refusals.Unpinned key) m n (is, others) = same_of m n others
-    seal_keeps a filled (refusals.Full free) m n (keeps, is, few, others) = same_of m n others
-    seal_keeps a filled refusals.Numbers m n (slot, none, others) = same_of m n others
-    seal_keeps a filled refusals.DiskRead m n (slot, others) = same_of m n others
-    seal_keeps a filled (refusals.Clash key at) m n (slot, known, others) = same_of m n others
-    seal_keeps a filled (refusals.Corrupt at offset count want got) m n (slot, (unknown, others)) = same_of m n others
-    seal_keeps a filled refusals.DiskWrite m n (slot, fits, others) = stop_keeps None _ m n others
-    seal_keeps a filled refusal m n refuses = absurd refuses
+    seal_keeps : (a : ℕ) (offered : List Contents) (refusal : Refusal) (m n : Machine V R) → RefusesSeal v a offered refusal m n → SameStore m n
+    seal_keeps a offered refusals.Memory m n others = same_of m n others
+    seal_keeps a offered (refusals.Unpinned key) m n (is, others) = same_of m n others
+    seal_keeps a offered (refusals.Full free) m n (keeps, is, few, others) = same_of m n others
+    seal_keeps a offered refusals.Numbers m n (slot, none, others) = same_of m n others
+    seal_keeps a offered refusals.DiskRead m n (slot, others) = same_of m n others
+    seal_keeps a offered (refusals.Clash key at) m n (slot, known, others) = same_of m n others
+    seal_keeps a offered (refusals.Corrupt at offset count want got) m n (slot, (unknown, others)) = same_of m n others
+    seal_keeps a offered refusals.DiskWrite m n (slot, fits, others) = stop_keeps None _ m n others
+    seal_keeps a offered refusal m n refuses = absurd refuses
 
     commit_keeps : (a : ℕ) (name : List ℕ) (value : V) (refusal : Refusal) (m n : Machine V R) → RefusesCommit v a name value refusal m n → SameStore m n
     commit_keeps a name value refusals.Memory m n others = same_of m n others
@@ -95,7 +100,7 @@ module _ {V R : Type 0} where
 
     on_keeps : (a : ℕ) (step : Asked V) (refusal : Refusal) (m n : Machine V R) → RefusesOn v a step refusal m n → SameStore m n
     on_keeps a (asked.Claim seg) refusal m n refuses = claim_keeps a seg refusal m n refuses
-    on_keeps a (asked.Seal filled) refusal m n refuses = seal_keeps a filled refusal m n refuses
+    on_keeps a (asked.Seal offered) refusal m n refuses = seal_keeps a offered refusal m n refuses
     on_keeps a (asked.Commit name value) refusal m n refuses = commit_keeps a name value refusal m n refuses
     on_keeps a (asked.OpenRead name) refusals.Memory m n others = same_of m n others
     on_keeps a (asked.OpenRead name) refusals.BadName m n (bad, others) = same_of m n others
@@ -118,18 +123,18 @@ module _ {V R : Type 0} where
     -- ---- done
 
     beside_same : (s : Stepped V) (c : Collection V) (m n : Machine V R) → m.collection ≡ Some c → SameStore m n → ((h : HeaderValue) → ¬ (IsSealOf s h)) → GoesBeside s c m n
-    beside_same s c m n ran same none = record { keys = c.keys; runs = same.collection ∙ ran; containers = inl (same.held, same.last, none) }
+    beside_same s c m n ran same none = inl (record { keys = c.keys; runs = same.collection ∙ ran; held = same.held; last = same.last }, none)
 
     -- what is no seal
     abbrev IsSeal : Asked V → Type 0
-    IsSeal (asked.Seal filled) = Unit {0}
+    IsSeal (asked.Seal offered) = Unit {0}
     IsSeal what = ⊥
 
     no_seal : (s : Stepped V) → (IsSeal s.asked → ⊥) → (h : HeaderValue) → ¬ (IsSealOf s h)
     no_seal s other h is = other (subst IsSeal (sym is.asked_is) tt)
 
     refused_none : (s : Stepped V) (refusal : Refusal) → s.answer ≡ Err refusal → (h : HeaderValue) → ¬ (IsSealOf s h)
-    refused_none s refusal is h seal = absurd (let wrong : Ok (done.Sealed seal.id) ≡ Err refusal = sym seal.answer_is ∙ is in cc)
+    refused_none s refusal is h seal = absurd (let wrong : Ok (done.Sealed (seal.last + seal.count) seal.count) ≡ Err refusal = sym seal.answer_is ∙ is in cc)
 
     abbrev step : ℕ → Asked V → Done → Stepped V
     step a what answer = record { actor = a; asked = what; answer = Ok answer }
@@ -137,11 +142,15 @@ module _ {V R : Type 0} where
     -- it is this machine, whose collection is the one that ran, but for the keys, and whose containers are those that were there
     kept : (s : Stepped V) (c : Collection V) (m n k : Machine V R) (keys : List (List ℕ)) → n ≡ k → k.collection ≡ Some (record c { keys = keys })
         → k.store.held ≡ m.store.held → k.last_id ≡ m.last_id → (IsSeal s.asked → ⊥) → GoesBeside s c m n
-    kept s c m n k keys is runs held last other = record {
-      keys = keys;
-      runs = ap (λ (x : Machine V R). x.collection) is ∙ runs;
-      containers = inl (ap (λ (x : Machine V R). x.store.held) is ∙ held, ap (λ (x : Machine V R). x.last_id) is ∙ last, no_seal s other);
-    }
+    kept s c m n k keys is runs held last other = inl (
+      record {
+        keys = keys;
+        runs = ap (λ (x : Machine V R). x.collection) is ∙ runs;
+        held = ap (λ (x : Machine V R). x.store.held) is ∙ held;
+        last = ap (λ (x : Machine V R). x.last_id) is ∙ last;
+      },
+      no_seal s other,
+    )
 
     claimed : (a : ℕ) (seg : KindSegment) (c : Collection V) (m n : Machine V R) → m.collection ≡ Some c → Claims v a seg m n
         → GoesBeside (step a (asked.Claim seg) done.Held) c m n
@@ -151,27 +160,35 @@ module _ {V R : Type 0} where
           collection = keeping keys m.collection;
         }) (c.keys ++ keys) does.others (ap (keeping keys) ran) refl refl (λ none. none)
 
-    sealed : (a : ℕ) (filled : Contents) (id : ℕ) (c : Collection V) (m n : Machine V R) → m.collection ≡ Some c → Seals v a filled id m n
-        → GoesBeside (step a (asked.Seal filled) (done.Sealed id)) c m n
-    sealed a filled id c m n ran does = record {
-      keys = c.keys ++ keys_of filled.kind filled.segments;
-      runs = ap (λ (x : Machine V R). x.collection) does.others ∙ ap (keeping (keys_of filled.kind filled.segments)) ran;
-      containers = inr (
-        header_of id filled.kind filled.segments,
-        record { filled = filled; id = id; asked_is = refl; answer_is = refl; header_is = refl },
-        does.can.slot,
-        does.id_is,
-        ap (λ (x : Machine V R). x.store.held) does.others,
-        ap (λ (x : Machine V R). x.last_id) does.others ∙ does.id_is,
-      );
-    }
+    sealed : (a : ℕ) (offered : List Contents) (id count : ℕ) (c : Collection V) (m n : Machine V R) → Seals v a offered id count m n
+        → GoesBeside (step a (asked.Seal offered) (done.Sealed id count)) c m n
+    sealed a offered id count c m n does = inr (a, take count offered, does.adds, λ h. (to h, from h))
+      where
+        to : (h : HeaderValue) → IsSealOf (step a (asked.Seal offered) (done.Sealed id count)) h → IsHeaderOfOne m.last_id (take count offered) h
+        to h is =
+            let offered_is : is.offered ≡ offered = (let both : asked.Seal offered ≡ asked.Seal is.offered = is.asked_is in cc) in
+            let id_is : is.last + is.count ≡ id = (let both : Ok (done.Sealed id count) ≡ Ok (done.Sealed (is.last + is.count) is.count) = is.answer_is in cc) in
+            let count_is : is.count ≡ count = (let both : Ok (done.Sealed id count) ≡ Ok (done.Sealed (is.last + is.count) is.count) = is.answer_is in cc) in
+            let last_is : is.last ≡ m.last_id = omega (arith, id_is, count_is, does.id_is) in
+            subst (λ (cs : List Contents). IsHeaderOfOne m.last_id cs h) (λ i. take (count_is i) (offered_is i))
+            (subst (λ (last : ℕ). IsHeaderOfOne last (take is.count is.offered) h) last_is is.header_is)
+
+        from : (h : HeaderValue) → IsHeaderOfOne m.last_id (take count offered) h → IsSealOf (step a (asked.Seal offered) (done.Sealed id count)) h
+        from h is = record {
+          offered = offered;
+          last = m.last_id;
+          count = count;
+          asked_is = refl;
+          answer_is = ap (λ (k : ℕ). Ok (done.Sealed k count)) does.id_is;
+          header_is = is;
+        }
 
     pub done_beside : (a : ℕ) (what : Asked V) (answer : Done) (c : Collection V) (m n : Machine V R) → m.collection ≡ Some c
         → what ≢ asked.GcStep → Does v a what answer m n → GoesBeside (step a what answer) c m n
     done_beside a asked.Begin done.Begun c m n ran not (is, others) = kept _ c m n (put_at m a (Writing finite.empty)) c.keys others ran refl refl (λ none. none)
     done_beside a (asked.Claim seg) done.Held c m n ran not does = claimed a seg c m n ran does
     done_beside a (asked.Claim seg) done.Absent c m n ran not (keeps, known, others) = beside_same _ c m n ran (same_of m n others) (no_seal _ (λ none. none))
-    done_beside a (asked.Seal filled) (done.Sealed id) c m n ran not does = sealed a filled id c m n ran does
+    done_beside a (asked.Seal offered) (done.Sealed id count) c m n ran not does = sealed a offered id count c m n does
     done_beside a (asked.Commit name value) (done.Committed sequence) c m n ran not does =
         kept _ c m n (record (put_at m a Idle) {
           now = with_name v name value m.now;

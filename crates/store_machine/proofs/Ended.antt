@@ -1,8 +1,9 @@
 -- A collection from its beginning to its end, whatever steps come between.
-use Rattle.store_machine.proofs.Prelude.{◌≡◌, ◌≢◌, ◌⊎◌, ◌↔◌, ◌<◌, inl, inr, ⊎_elim, ℕ, zero, suc, [], ◌∷◌, ◌++◌, get_or, length, Contains, Some, Result, Ok, Err, refl, sym, ◌∙◌, ap, subst, arith, HeaderValue, header_of, RESERVE, Store, first_free, free_slots, with_slot, Phase, Refusal, Asked, AreBetween, EachOnce, HasContainer, HasIds, IsSealOf, TakesKey, Begins, GoesOn, freed_in, keys_written, marking, marks_of, sources_in, Done, ByState, Does, Legal, LegalBy, Collection, Machine, RunState, Running, Stepped, Stopped, Sweep, Sweeping, keys_kept, values_read, Run, Values}
+use Rattle.store_machine.proofs.Prelude.{◌≡◌, ◌≢◌, ◌⊎◌, ◌↔◌, inl, inr, ⊎_elim, ℕ, zero, suc, [], ◌∷◌, ◌++◌, get_or, length, Contains, Some, Result, Ok, Err, refl, sym, ◌∙◌, ap, subst, arith, HeaderValue, header_of, Store, Phase, Refusal, Asked, AreBetween, EachOnce, HasContainer, HasIds, IsSealOf, TakesKey, Begins, GoesOn, freed_in, keys_written, marking, marks_of, sources_in, Done, ByState, Does, Legal, LegalBy, Collection, Machine, RunState, Running, Stepped, Stopped, Sweep, Sweeping, keeping, keys_kept, keys_of, values_read, Run, Values}
 use Rattle.std.proofs.Common.{List}
 use Rattle.std.specs.FinMap as finite
 use Rattle.std.proofs.lemmas.Grind.{get_or_default_zero}
+use Rattle.container_meta.specs.Segments.{Contents}
 use Rattle.gc_select.specs.Selecting.{selected}
 use Rattle.gc_select.proofs.Chosen.{sources_many}
 use Rattle.refusals.specs.declared.refusal.Phase.TheVariants as phases
@@ -10,7 +11,8 @@ use Rattle.store_machine.specs.Asked as asked
 use Rattle.store_machine.specs.Collected.{Collected, CollectsWhatItSelected, IsBetween, IsSealedBy, WasTaken}
 use Rattle.store_machine.specs.Collecting.{Ends, Goes, Went}
 use Rattle.store_machine.specs.Done as done
-use Rattle.store_machine.proofs.Beside.{SameStore, same_of, step_beside, step_state}
+use Rattle.store_machine.specs.Offers.{AddsContainers, IsHeaderOfOne}
+use Rattle.store_machine.proofs.Beside.{GoesBeside, SameStore, same_of, step_beside, step_state}
 use Rattle.store_machine.proofs.Running.{Since, Steps, chosen, copied_by, flushed, kept, marked, recorded_one, released, sealed, still}
 use Rattle.store_machine.proofs.Swept.{AtStage, SweepsSince, filled_at, none_filled, none_in}
 
@@ -22,14 +24,29 @@ is_gc_step : {V : Type 0} (what : Asked V) → (what ≡ asked.GcStep) ⊎ (what
 is_gc_step asked.GcStep = inl refl
 is_gc_step what = inr (λ is. subst IsGcStep (sym is) tt)
 
--- one seal is of one container
-seal_once : {V : Type 0} (s : Stepped V) (g h : HeaderValue) → IsSealOf s g → IsSealOf s h → g ≡ h
-seal_once s g h one other =
-    let filled_is : one.filled ≡ other.filled = (let both : asked.Seal one.filled ≡ asked.Seal other.filled = sym one.asked_is ∙ other.asked_is in cc) in
-    let id_is : one.id ≡ other.id = (let both : Ok (done.Sealed one.id) ≡ Ok (done.Sealed other.id) = sym one.answer_is ∙ other.answer_is in cc) in
-    one.header_is ∙ (λ i. header_of (id_is i) (filled_is i).kind (filled_is i).segments) ∙ sym other.header_is
+three : {A B C : Type 0} → ((A ⊎ B) ⊎ C) ↔ (A ⊎ (B ⊎ C))
+three = (
+  (λ x. ⊎_elim (λ y. ⊎_elim (λ a. inl a) (λ b. inr (inl b)) y) (λ c. inr (inr c)) x),
+  (λ x. ⊎_elim (λ a. inl (inl a)) (λ y. ⊎_elim (λ b. inl (inr b)) (λ c. inr c) y) x),
+)
 
 module _ {V R : Type 0} (v : Values V R) (known : v.Known) (m : Machine V R) (ids : HasIds m.store m.last_id) where
+  -- containers that were sealed, one after the other
+  all_sealed : (a : ℕ) (cs : List Contents) (k n : Machine V R) (c : Collection V) (S : HeaderValue → Type 0) (T : List ℕ → Type 0) → Since m k c S T
+      → AddsContainers a cs k n → (d : Collection V) × Since m n d (λ h. S h ⊎ IsHeaderOfOne k.last_id cs h) T
+  all_sealed a [] k n c S T since is =
+      (c, still m k n c S _ T T since (λ h. (inl, (λ x. ⊎_elim (λ was. was) (λ none. absurd none) x))) (λ key. ((λ x. x), (λ x. x))) (same_of k n is))
+  all_sealed a (x ∷ xs) k n c S T since (mid, one, rest) =
+      let h : HeaderValue = header_of (suc k.last_id) x.kind x.segments in
+      let keys = keys_of x.kind x.segments in
+      let last : mid.last_id ≡ suc k.last_id = ap (λ (y : Machine V R). y.last_id) one.others in
+      let first : Since m mid (record c { keys = c.keys ++ keys }) (λ g. S g ⊎ (g ≡ h)) T =
+      sealed m k mid c S _ T T since (c.keys ++ keys) (ap (λ (y : Machine V R). y.collection) one.others ∙ ap (keeping keys) since.ran) h (omega (arith, one.can.slot)) refl
+      (ap (λ (y : Machine V R). y.store.held) one.others) last (λ g. ((λ x. x), (λ x. x))) (λ key. ((λ x. x), (λ x. x))) in
+      let all = all_sealed a xs mid n _ _ T first rest in
+      let more = subst (λ (l : ℕ). Since m n all.0 (λ g. (S g ⊎ (g ≡ h)) ⊎ IsHeaderOfOne l xs g) T) last all.1 in
+      (all.0, still m n n all.0 _ _ T T more (λ g. three) (λ key. ((λ x. x), (λ x. x))) (same_of n n refl))
+
   -- what is so after a step
   abbrev Next : (s : Stepped V) (k n : Machine V R) (S : HeaderValue → Type 0) (T : List ℕ → Type 0) → Type 0
   Next s k n S T = (c : Collection V) × Since m n c (λ h. S h ⊎ IsSealOf s h) (λ key. T key ⊎ ((s.asked ≡ asked.GcStep) × TakesKey k n key))
@@ -39,7 +56,7 @@ module _ {V R : Type 0} (v : Values V R) (known : v.Known) (m : Machine V R) (id
     no_seal : s.asked ≡ asked.GcStep → (h : HeaderValue) → S h ↔ (S h ⊎ IsSealOf s h)
     no_seal gc h = (inl, (λ is. ⊎_elim (λ was. was) (λ seal. absurd (subst IsGcStep (gc_is seal) tt)) is))
       where
-        gc_is : (seal : IsSealOf s h) → (let what : Asked V = asked.GcStep in what ≡ asked.Seal seal.filled)
+        gc_is : (seal : IsSealOf s h) → (let what : Asked V = asked.GcStep in what ≡ asked.Seal seal.offered)
         gc_is seal = sym gc ∙ seal.asked_is
 
     taken_by : s.asked ≡ asked.GcStep → (key : List ℕ) → (T key ⊎ ((s.asked ≡ asked.GcStep) × TakesKey k n key)) ↔ (T key ⊎ TakesKey k n key)
@@ -100,26 +117,21 @@ module _ {V R : Type 0} (v : Values V R) (known : v.Known) (m : Machine V R) (id
     -- another step
     other_step : s.asked ≢ asked.GcStep → IsBetween s → Legal v s k n → Next s k n S T
     other_step other between legal =
-        let beside = step_beside v s c k n since.ran between.0 other legal in
-        by beside.keys beside.runs beside.containers
+        by (step_beside v s c k n since.ran between.0 other legal)
       where
         none_taken : (key : List ℕ) → T key ↔ (T key ⊎ ((s.asked ≡ asked.GcStep) × TakesKey k n key))
         none_taken key = (inl, (λ is. ⊎_elim (λ was. was) (λ takes. absurd (other takes.0)) is))
 
-        by : (keys : List (List ℕ)) → n.collection ≡ Some (record c { keys = keys })
-            → ((n.store.held ≡ k.store.held) × (n.last_id ≡ k.last_id) × ((h : HeaderValue) → ¬ (IsSealOf s h)))
-            ⊎ ((h : HeaderValue) × IsSealOf s h × (RESERVE < free_slots k.store.held) × (h.id ≡ suc k.last_id)
-            × (n.store.held ≡ with_slot (first_free k.store.held) h k.store.held) × (n.last_id ≡ suc k.last_id)) → Next s k n S T
-        by keys runs (inl (held, last, none)) =
-            (_, kept m k n c S _ T _ since (λ h. (inl, (λ is. ⊎_elim (λ was. was) (λ seal. absurd (none h seal)) is))) none_taken keys runs held last)
-        by keys runs (inr (h, seal, room, id_is, held, last)) = (
-          _,
-          sealed m k n c S _ T _ since keys runs h (omega (arith, room)) id_is held last
-              (λ g. (
-                (λ is. ⊎_elim (λ was. inl was) (λ one. inr (seal_once s g h one seal)) is),
-                (λ is. ⊎_elim (λ was. inl was) (λ same. inr (subst (IsSealOf s) (sym same) seal)) is),
-              )) none_taken,
-        )
+        by : GoesBeside s c k n → Next s k n S T
+        by (inl (stay, none)) =
+            (_, kept m k n c S _ T _ since (λ h. (inl, (λ is. ⊎_elim (λ was. was) (λ seal. absurd (none h seal)) is))) none_taken stay.keys stay.runs stay.held stay.last)
+        by (inr (a, cs, adds, words)) =
+            let all = all_sealed a cs k n c S T since adds in (
+              all.0,
+              still m n n all.0 _ _ T _ all.1
+                  (λ h. ((λ is. ⊎_elim (λ was. inl was) (λ one. inr ((words h).1 one)) is), (λ is. ⊎_elim (λ was. inl was) (λ one. inr ((words h).0 one)) is)))
+                  none_taken (same_of n n refl),
+            )
 
     pub one_step : IsBetween s → Legal v s k n → Next s k n S T
     one_step between legal = ⊎_elim (λ gc. gc_step gc between legal) (λ other. other_step other between legal) (is_gc_step s.asked)
@@ -135,12 +147,6 @@ module _ {V R : Type 0} (v : Values V R) (known : v.Known) (m : Machine V R) (id
       let first = one_step s k mid c S T since one legal in
       let rest = after_all ss mid n run first.0 _ _ first.1 more in
       (rest.0, still m n n rest.0 _ _ _ _ rest.1 (λ h. three) (λ key. three) (same_of n n refl))
-    where
-      three : {A B C : Type 0} → ((A ⊎ B) ⊎ C) ↔ (A ⊎ (B ⊎ C))
-      three = (
-        (λ x. ⊎_elim (λ y. ⊎_elim (λ a. inl a) (λ b. inr (inl b)) y) (λ c. inr (inr c)) x),
-        (λ x. ⊎_elim (λ a. inl (inl a)) (λ y. ⊎_elim (λ b. inl (inr b)) (λ c. inr c) y) x),
-      )
 
 -- ---- its beginning and its end
 

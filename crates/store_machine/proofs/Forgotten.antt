@@ -1,6 +1,6 @@
 -- A step of the machine of files is one of the machine of roots, once all but the roots is forgotten.
-use Rattle.store_machine.proofs.Prelude.{◌≡◌, inl, inr, ◌≤◌, ◌<◌, ◌-◌, ◌^◌, ℕ, suc, false, [], ◌∷◌, ◌++◌, length, map, Contains, Option, Some, None, option_map, Result, Ok, Err, refl, sym, ◌∙◌, ap, subst, ACTORS, PinMap, pin_of, KindSegment, segment_key, Root, Put, Gone, half_cells, LAST_ID, MOST_NAMES, RESERVE, Top, start_of, PartKind, Phase, Refusal, Store, free_slots, last_id, with_freed, CanRise, CanSeal, with_change, with_sealed, Asked, Begins, GoesOn, IsCollecting, Makes, MayBreak, last_by, marking, marks_of, phase_in, swept_by, Done, Forgets, Rests, SameNow, SamePart, SameState, asked_of, forget_collection, Answers, ByState, Claims, Deletes, Does, GivesBytes, GivesUp, HasName, HasNumbers, HasRoom, HasSlot, IsAtEnd, IsAtRightPart, IsUnkept, broken_by, Keeps, LacksNumbers, MayCommit, OpensValue, Refuses, RefusesClaim, RefusesCommit, RefusesDelete, RefusesGcStep, RefusesOn, RefusesRead, RefusesSeal, Seals, LegalBy, counted, with_name, without_name, Collection, Found, Idle, Writing, Reading, RunState, Running, Stopped, all_idle, keeping, kind_of, one_more, part_in, put_at, forgotten_beside, keys_kept, keys_of, values_read, with_pins, MayBeFound, MayRefuseOpening, Reopens, freeing, IsStuck, of_files, of_roots, top_of}
-use Rattle.std.proofs.Common.{List, slice_get}
+use Rattle.store_machine.proofs.Prelude.{◌≡◌, inl, inr, ◌≤◌, ◌<◌, ◌+◌, ◌-◌, ◌^◌, ℕ, suc, false, [], ◌∷◌, ◌++◌, length, map, Contains, Option, Some, None, option_map, Result, Ok, Err, refl, sym, ◌∙◌, ap, subst, ACTORS, PinMap, pin_of, KindSegment, segment_key, Root, Put, Gone, half_cells, LAST_ID, MOST_NAMES, RESERVE, Top, start_of, PartKind, Phase, Refusal, Store, free_slots, last_id, with_freed, CanRise, with_change, with_sealed, Asked, Begins, GoesOn, IsCollecting, Makes, MayBreak, last_by, marking, marks_of, phase_in, swept_by, Done, Forgets, Rests, SameNow, SamePart, SameState, asked_of, forget_collection, Answers, ByState, Claims, Deletes, Does, GivesBytes, GivesUp, HasName, HasNumbers, HasRoom, HasSlot, IsAtEnd, IsAtRightPart, IsUnkept, broken_by, Keeps, LacksNumbers, MayCommit, OpensValue, Refuses, RefusesClaim, RefusesCommit, RefusesDelete, RefusesGcStep, RefusesOn, RefusesRead, RefusesSeal, Seals, LegalBy, counted, with_name, without_name, Collection, Found, Idle, Writing, Reading, RunState, Running, Stopped, all_idle, keeping, kind_of, one_more, part_in, put_at, keys_kept, values_read, MayBeFound, MayRefuseOpening, Reopens, freeing, IsStuck, of_files, of_roots, top_of}
+use Rattle.std.proofs.Common.{List, slice_get, take}
 use Rattle.std.specs.FinMap as finite
 use Rattle.container_meta.specs.Segments.{Contents}
 use Rattle.refusals.specs.declared.refusal.PartKind.TheVariants as kinds
@@ -12,9 +12,11 @@ use Rattle.store_machine.specs.Asked as asked
 use Rattle.store_machine.specs.Collecting.{Ends}
 use Rattle.store_machine.specs.Done as done
 use Rattle.store_machine.specs.Forgetting.{RunsAreForgotten, StepsAreForgotten}
-use Rattle.store_machine.specs.Legal.{Commits, IsLacked, taken_by}
-use Rattle.store_machine.specs.Needs.{HasLength}
+use Rattle.store_machine.specs.Legal.{Commits, taken_by}
+use Rattle.store_machine.specs.Needs.{HasLength, IsLacked}
+use Rattle.store_machine.specs.Offers.{sealed_in, stores_with_some}
 use Rattle.store_machine.specs.Opening.{Opens}
+use Rattle.store_machine.proofs.AddedSame.{all_added, sealed_same, stores_same}
 use Rattle.store_machine.proofs.ForgottenCollection.{goes_same}
 use Rattle.store_machine.proofs.Parts.{F, G, FilePart, RootPart, part_at, set_at, all_same, kind_same, idle_same, writing_same, reading_same, kept_map, keys_same, read_same, map_two, collecting}
 use Rattle.store_machine.proofs.SameNames.{gone_same, knows_same, len_same, listing_same, none_same, put_same, some_same, values_same}
@@ -80,8 +82,8 @@ module _ (m : F) (r : G) (same : Forgets m r) where
 
   -- ---- steps that are done
 
-  abbrev keeps_same : (a : ℕ) (unkept : PinMap → Option (List ℕ)) (kind : _) → Keeps of_files a kind unkept m → Keeps of_roots a kind unkept r
-  keeps_same a unkept kind k = record { pins = k.pins; writing = writing a k.pins k.writing; children = k.children }
+  abbrev keeps_same : (a : ℕ) (unkept : PinMap → Option (List ℕ)) → Keeps of_files a unkept m → Keeps of_roots a unkept r
+  keeps_same a unkept k = record { pins = k.pins; writing = writing a k.pins k.writing; children = k.children }
 
   kept_now : (keys : List (List ℕ)) → keeping keys r.collection ≡ option_map forget_collection (keeping keys m.collection)
   kept_now keys = ap (keeping keys) same.collection ∙ kept_map keys m.collection
@@ -93,7 +95,7 @@ module _ (m : F) (r : G) (same : Forgets m r) where
       let t : G = record (put_at r a (Writing part)) { collection = keeping keys r.collection } in
       goes (λ t. Claims of_roots a seg r t) n (record (put_at m a (Writing part)) { collection = keeping keys m.collection }) t c.others
       (record {
-        may = keeps_same a _ seg.kind c.may;
+        may = keeps_same a _ c.may;
         held =
             λ indexed. (on_store (λ (s : Store). HasLength s seg) (c.held (inl tt)).0, on_forgotten (λ fs. ¬ (Contains fs (segment_key seg.kind seg.segment))) (c.held (inl tt)).1);
         same = λ known. absurd known;
@@ -111,43 +113,21 @@ module _ (m : F) (r : G) (same : Forgets m r) where
         state = same.state;
       })
 
-  sealed : (a : ℕ) (filled : Contents) (id : ℕ) (n : F) → Seals of_files a filled id m n → Left (λ t. Seals of_roots a filled id r t) n
-  sealed a filled id n c =
-      let keys = keys_of filled.kind filled.segments in
-      let part : PinMap = with_pins filled.kind filled.segments c.may.pins in
-      let t : G =
-      record (put_at r a (Writing part)) {
-        store = with_sealed id filled.kind filled.segments r.store;
-        last_id = id;
-        forgotten = forgotten_beside keys r.forgotten;
-        collection = keeping keys r.collection;
-      } in
-      let before : F =
-      record (put_at m a (Writing part)) {
-        store = with_sealed id filled.kind filled.segments m.store;
-        last_id = id;
-        forgotten = forgotten_beside keys m.forgotten;
-        collection = keeping keys m.collection;
-      } in
-      goes (λ t. Seals of_roots a filled id r t) n before t c.others
-      (record {
-        may = keeps_same a _ filled.kind c.may;
-        fits = λ told. absurd told;
-        id_is = c.id_is ∙ ap suc (sym same.last_id);
-        can = subst (CanSeal id filled.kind filled.segments) (sym same.store) c.can;
-        others = refl;
-      })
-      (record {
-        now = same.now;
-        parts = set_at m.parts r.parts a (Writing part) (Writing part) same.parts refl;
-        store = ap (with_sealed id filled.kind filled.segments) same.store;
-        last_id = refl;
-        forgotten = ap (forgotten_beside keys) same.forgotten;
-        swept = same.swept;
-        collection = kept_now keys;
-        acknowledged = same.acknowledged;
-        state = same.state;
-      })
+  sealed : (a : ℕ) (offered : List Contents) (id count : ℕ) (n : F) → Seals of_files a offered id count m n → Left (λ t. Seals of_roots a offered id count r t) n
+  sealed a offered id count n c =
+      let left = all_added a (take count offered) m n r same c.adds in (
+        left.0,
+        record {
+          offer = c.offer;
+          may = keeps_same a _ c.may;
+          count_is = c.count_is ∙ sym (sealed_same m r same offered);
+          some = c.some;
+          fits = λ told. absurd told;
+          id_is = c.id_is ∙ ap (λ (k : ℕ). k + count) (sym same.last_id);
+          adds = left.1;
+        },
+        left.2,
+      )
 
   knows : (name : List ℕ) → HasName of_files name m → HasName of_roots name r
   knows name is = knows_same m.now r.now same.now name ∙ is
@@ -370,8 +350,8 @@ module _ (m : F) (r : G) (same : Forgets m r) where
   done_same a (asked.Claim seg) done.Held n does = claimed a seg n does
   done_same a (asked.Claim seg) done.Absent n (keeps, told, others) =
       stays (λ t. Does of_roots a (asked.Claim seg) done.Absent r t) n others
-      (keeps_same a _ seg.kind keeps, (λ indexed. lacks_same (segment_key seg.kind seg.segment) (told (inl tt))), refl)
-  done_same a (asked.Seal filled) (done.Sealed id) n does = sealed a filled id n does
+      (keeps_same a _ keeps, (λ indexed. lacks_same (segment_key seg.kind seg.segment) (told (inl tt))), refl)
+  done_same a (asked.Seal offered) (done.Sealed id count) n does = sealed a offered id count n does
   done_same a (asked.Commit name file) (done.Committed sequence) n does = committed a name file sequence n does
   done_same a asked.Abort done.Aborted n does = given_up a kinds.Writing n does
   done_same a (asked.OpenRead name) (done.Opened count) n does = opened a name count n does
@@ -411,36 +391,35 @@ module _ (m : F) (r : G) (same : Forgets m r) where
   on_id : (P : ℕ → Type 0) → P m.last_id → P r.last_id
   on_id P is = subst P (sym same.last_id) is
 
-  slot_same : (a : ℕ) (filled : Contents) → HasSlot of_files a filled m → HasSlot of_roots a filled r
-  slot_same a filled (keeps, free) = (keeps_same a _ filled.kind keeps, on_store (λ s. RESERVE < free_slots s.held) free)
+  slot_same : (a : ℕ) (offered : List Contents) → HasSlot of_files a offered m → HasSlot of_roots a offered r
+  slot_same a offered (keeps, free) = (keeps_same a _ keeps, on_store (λ s. RESERVE < free_slots s.held) free)
 
   unclaimed : (a : ℕ) (seg : KindSegment) (refusal : Refusal) (n : F) → RefusesClaim of_files a seg refusal m n → Left (λ t. RefusesClaim of_roots a seg refusal r t) n
   unclaimed a seg (refusals.Unpinned key) n (is, others) = stays (λ t. RefusesClaim of_roots a seg (refusals.Unpinned key) r t) n others (unkept_same a _ key is, refl)
   unclaimed a seg refusals.Memory n others = stays (λ t. RefusesClaim of_roots a seg refusals.Memory r t) n others refl
-  unclaimed a seg refusals.DiskRead n (keeps, others) = stays (λ t. RefusesClaim of_roots a seg refusals.DiskRead r t) n others (keeps_same a _ seg.kind keeps, refl)
+  unclaimed a seg refusals.DiskRead n (keeps, others) = stays (λ t. RefusesClaim of_roots a seg refusals.DiskRead r t) n others (keeps_same a _ keeps, refl)
   unclaimed a seg (refusals.Clash key at) n (keeps, known, others) =
-      stays (λ t. RefusesClaim of_roots a seg (refusals.Clash key at) r t) n others (keeps_same a _ seg.kind keeps, (λ e. absurd e), refl)
+      stays (λ t. RefusesClaim of_roots a seg (refusals.Clash key at) r t) n others (keeps_same a _ keeps, (λ e. absurd e), refl)
   unclaimed a seg (refusals.Corrupt slot offset count want got) n (keeps, (unknown, others)) = absurd (unknown tt)
   unclaimed a seg refusal n refuses = absurd refuses
 
-  unsealed : (a : ℕ) (filled : Contents) (refusal : Refusal) (n : F) → RefusesSeal of_files a filled refusal m n → Left (λ t. RefusesSeal of_roots a filled refusal r t) n
-  unsealed a filled refusals.Memory n others = stays (λ t. RefusesSeal of_roots a filled refusals.Memory r t) n others refl
-  unsealed a filled (refusals.Unpinned key) n (is, others) = stays (λ t. RefusesSeal of_roots a filled (refusals.Unpinned key) r t) n others (unkept_same a _ key is, refl)
-  unsealed a filled (refusals.Full free) n (keeps, is, few, others) =
-      stays (λ t. RefusesSeal of_roots a filled (refusals.Full free) r t) n others (keeps_same a _ filled.kind keeps, on_store (λ s. free ≡ free_slots s.held) is, few, refl)
-  unsealed a filled refusals.Numbers n (slot, none, others) =
-      stays (λ t. RefusesSeal of_roots a filled refusals.Numbers r t) n others (slot_same a filled slot, on_id (λ id. LAST_ID ≤ id) none, refl)
-  unsealed a filled refusals.DiskRead n ((slot, id), others) =
-      stays (λ t. RefusesSeal of_roots a filled refusals.DiskRead r t) n others ((slot_same a filled slot, on_id (λ id. id < LAST_ID) id), refl)
-  unsealed a filled (refusals.Clash key at) n ((slot, id), known, others) =
-      stays (λ t. RefusesSeal of_roots a filled (refusals.Clash key at) r t) n others ((slot_same a filled slot, on_id (λ id. id < LAST_ID) id), (λ e. absurd e), refl)
-  unsealed a filled (refusals.Corrupt at offset count want got) n (slot, (unknown, others)) = absurd (unknown tt)
-  unsealed a filled refusals.DiskWrite n ((slot, id), fits, others) =
-      stop (λ t. RefusesSeal of_roots a filled refusals.DiskWrite r t) n None None (with_sealed (suc m.last_id) filled.kind filled.segments m.store ∷ [])
-      (with_sealed (suc r.last_id) filled.kind filled.segments r.store ∷ []) others
-      (λ i. with_sealed (suc (same.last_id i)) filled.kind filled.segments (same.store i) ∷ [])
-      ((slot_same a filled slot, on_id (λ id. id < LAST_ID) id), (λ e. absurd e), refl)
-  unsealed a filled refusal n refuses = absurd refuses
+  unsealed : (a : ℕ) (offered : List Contents) (refusal : Refusal) (n : F) → RefusesSeal of_files a offered refusal m n → Left (λ t. RefusesSeal of_roots a offered refusal r t) n
+  unsealed a offered refusals.Memory n others = stays (λ t. RefusesSeal of_roots a offered refusals.Memory r t) n others refl
+  unsealed a offered (refusals.Unpinned key) n (is, others) = stays (λ t. RefusesSeal of_roots a offered (refusals.Unpinned key) r t) n others (unkept_same a _ key is, refl)
+  unsealed a offered (refusals.Full free) n (keeps, is, few, others) =
+      stays (λ t. RefusesSeal of_roots a offered (refusals.Full free) r t) n others (keeps_same a _ keeps, on_store (λ s. free ≡ free_slots s.held) is, few, refl)
+  unsealed a offered refusals.Numbers n (slot, none, others) =
+      stays (λ t. RefusesSeal of_roots a offered refusals.Numbers r t) n others (slot_same a offered slot, on_id (λ id. LAST_ID ≤ id) none, refl)
+  unsealed a offered refusals.DiskRead n ((slot, id), others) =
+      stays (λ t. RefusesSeal of_roots a offered refusals.DiskRead r t) n others ((slot_same a offered slot, on_id (λ id. id < LAST_ID) id), refl)
+  unsealed a offered (refusals.Clash key at) n ((slot, id), known, others) =
+      stays (λ t. RefusesSeal of_roots a offered (refusals.Clash key at) r t) n others ((slot_same a offered slot, on_id (λ id. id < LAST_ID) id), (λ e. absurd e), refl)
+  unsealed a offered (refusals.Corrupt at offset count want got) n (slot, (unknown, others)) = absurd (unknown tt)
+  unsealed a offered refusals.DiskWrite n ((slot, id), fits, others) =
+      stop (λ t. RefusesSeal of_roots a offered refusals.DiskWrite r t) n None None (stores_with_some m.last_id (sealed_in offered m) m.store)
+      (stores_with_some r.last_id (sealed_in offered r) r.store) others (stores_same m r same offered)
+      ((slot_same a offered slot, on_id (λ id. id < LAST_ID) id), (λ e. absurd e), refl)
+  unsealed a offered refusal n refuses = absurd refuses
 
   uncommitted : (a : ℕ) (name file : List ℕ) (refusal : Refusal) (n : F) → RefusesCommit of_files a name file refusal m n
       → Left (λ t. RefusesCommit of_roots a name (root_of file) refusal r t) n
@@ -535,7 +514,7 @@ module _ (m : F) (r : G) (same : Forgets m r) where
   refused_on : (a : ℕ) (step : Asked (List ℕ)) (refusal : Refusal) (n : F) → RefusesOn of_files a step refusal m n
       → Left (λ t. RefusesOn of_roots a (asked_of step) refusal r t) n
   refused_on a (asked.Claim seg) refusal n refuses = unclaimed a seg refusal n refuses
-  refused_on a (asked.Seal filled) refusal n refuses = unsealed a filled refusal n refuses
+  refused_on a (asked.Seal offered) refusal n refuses = unsealed a offered refusal n refuses
   refused_on a (asked.Commit name file) refusal n refuses = uncommitted a name file refusal n refuses
   refused_on a (asked.OpenRead name) refusals.Memory n others = stays (λ t. RefusesOn of_roots a (asked.OpenRead name) refusals.Memory r t) n others refl
   refused_on a (asked.OpenRead name) refusals.BadName n (bad, others) = stays (λ t. RefusesOn of_roots a (asked.OpenRead name) refusals.BadName r t) n others (bad, refl)
@@ -556,7 +535,7 @@ module _ (m : F) (r : G) (same : Forgets m r) where
   pub taken_same : (step : Asked (List ℕ)) → taken_by (asked_of step) ≡ taken_by step
   taken_same asked.Begin = refl
   taken_same (asked.Claim seg) = refl
-  taken_same (asked.Seal filled) = refl
+  taken_same (asked.Seal offered) = refl
   taken_same (asked.Commit name file) = refl
   taken_same asked.Abort = refl
   taken_same (asked.OpenRead name) = refl

@@ -1,6 +1,6 @@
 -- What the lines of an `ingest` come to: what they are refused by, what they add to the store, and what they print.
-use Rattle.store_machine.proofs.Prelude.{◌≡◌, ◌≢◌, ◌⊎◌, inl, inr, ◌≤◌, ◌<◌, ℕ, suc, true, false, [], ◌∷◌, ◌++◌, Option, Some, None, Err, refl, sym, ◌∙◌, ap, subst, AllByRecursion, PinMap, first_unpinned, Kind, KindSegment, Segment, Put, LAST_ID, MOST_NAMES, RESERVE, PartKind, Refusal, LineValue, ReplyValue, Store, StoreChange, with_change, root_key, free_slots, last_id, Asked, AfterOpening, AllFollow, AreLinesOf, EndsRefused, EndsWith, Follows, Ingest, IsDone, IsNotOpened, Lines, MakesRoom, Makes, OnceOpened, Replied, desk, given_after, given_by, last_of, printed, text_of, AddsIn, IsDueOf, HasRoom, LacksNumbers, Refuses, RefusesClaim, RefusesCommit, RefusesSeal, IsDueStep, Line, NothingIsDue, Session, new_session, reply_of, step_of, Found, Running, kind_of, part_in, first_unkept, or_else, Reopens, of_files}
-use Rattle.std.proofs.Common.{List, slice_get}
+use Rattle.store_machine.proofs.Prelude.{◌≡◌, ◌≢◌, ◌⊎◌, inl, inr, ◌≤◌, ◌<◌, ℕ, zero, suc, true, false, [], ◌∷◌, ◌++◌, Option, Some, None, Err, refl, sym, ◌∙◌, ap, subst, AllByRecursion, PinMap, first_unpinned, Kind, KindSegment, Segment, Put, LAST_ID, MOST_NAMES, RESERVE, PartKind, Refusal, LineValue, ReplyValue, Store, StoreChange, with_change, root_key, free_slots, last_id, Asked, AfterOpening, AllFollow, AreLinesOf, EndsRefused, EndsWith, Follows, Ingest, IsDone, IsNotOpened, Lines, MakesRoom, Makes, OnceOpened, Replied, desk, given_after, given_by, last_of, printed, text_of, AddsIn, IsDueOf, HasRoom, LacksNumbers, Refuses, RefusesClaim, RefusesCommit, RefusesSeal, IsDueStep, Line, NothingIsDue, Session, new_session, reply_of, step_of, Found, Running, kind_of, part_in, first_unkept, or_else, Reopens, of_files}
+use Rattle.std.proofs.Common.{List, slice_get, take}
 use Rattle.std.specs.FinMap as finite
 use Rattle.std.proofs.lemmas.List.{append-nil}
 use Rattle.container_meta.specs.Segments.{Contents}
@@ -12,9 +12,10 @@ use Rattle.script_lines.specs.Grammar as lines
 use Rattle.script_lines.specs.ReplyValue as replies
 use Rattle.store_model.specs.Trees.{root_of}
 use Rattle.store_machine.specs.Asked as asked
-use Rattle.store_machine.specs.Ingests.{AsksName, IngestRefusal, IngestsByMap, IngestsClash, IsBroken, IsSealFor}
-use Rattle.store_machine.specs.Legal.{IsKept}
+use Rattle.store_machine.specs.Ingests.{AsksName, HasSegment, IngestRefusal, IngestsByMap, IngestsClash, IsBroken, IsSealFor}
+use Rattle.store_machine.specs.Legal.{IsFirstClash, IsKept}
 use Rattle.store_machine.specs.Needs.{IsClash}
+use Rattle.store_machine.specs.Offers.{first_unkept_in, sealed_in}
 use Rattle.store_machine.specs.Twins.{HasTwins, PiecesAreTwins}
 use Rattle.store_machine.specs.Storing.{AddsOnce, AsksPieces, HoldsFile, LacksPiece, MayCome, OfWhole}
 use Rattle.store_machine.proofs.IngestLines.{After, Goes, How, Refused, Writes, all_after}
@@ -39,6 +40,32 @@ unkept_one kind (s ∷ ss) pins key is = by (first_unpinned (record { kind = kin
     by (Some k) here same on = (0, s, refl, here ∙ same)
     by None here same on = let rest = on same in (suc rest.0, rest.1, rest.2, rest.3)
 
+-- of what is offered
+unkept_of : (cs : List Contents) (pins : PinMap) (key : List ℕ) → first_unkept_in cs pins ≡ Some key
+    → (seg : KindSegment) × HasSegment (asked.Seal cs) seg × (first_unpinned seg pins ≡ Some key)
+unkept_of [] pins key is = absurd (let wrong : None ≡ Some key = is in cc)
+unkept_of (c ∷ cs) pins key is = by (first_unkept c.kind c.segments pins) refl is (unkept_of cs pins key)
+  where
+    by : (o : Option (List ℕ)) → first_unkept c.kind c.segments pins ≡ o → or_else o (first_unkept_in cs pins) ≡ Some key
+        → (first_unkept_in cs pins ≡ Some key → (seg : KindSegment) × HasSegment (asked.Seal cs) seg × (first_unpinned seg pins ≡ Some key))
+        → (seg : KindSegment) × HasSegment (asked.Seal (c ∷ cs)) seg × (first_unpinned seg pins ≡ Some key)
+    by (Some k) here same on =
+        let one = unkept_one c.kind c.segments pins key (here ∙ same) in
+        (record { kind = c.kind; segment = one.1 }, inl (refl, (one.0, one.2)), one.3)
+    by None here same on = let rest = on same in (rest.0, inr rest.1, rest.2)
+
+clash_of : (cs : List Contents) (key : List ℕ) (at : Difference) (m : F) → IsFirstClash of_files cs key at m
+    → (seg : KindSegment) × HasSegment (asked.Seal cs) seg × IsClash m.store m.forgotten seg key at
+clash_of [] key at m none = absurd none
+clash_of (c ∷ cs) key at m (inl one) = (record { kind = c.kind; segment = one.1 }, inl (refl, (one.0, one.2)), one.4)
+clash_of (c ∷ cs) key at m (inr (fits, more)) = let rest = clash_of cs key at m more in (rest.0, inr rest.1, rest.2)
+
+has_taken : (k : ℕ) (cs : List Contents) (seg : KindSegment) → HasSegment (asked.Seal (take k cs)) seg → HasSegment (asked.Seal cs) seg
+has_taken zero cs seg has = absurd has
+has_taken (suc k) [] seg has = absurd has
+has_taken (suc k) (c ∷ cs) seg (inl here) = inl here
+has_taken (suc k) (c ∷ cs) seg (inr there) = inr (has_taken k cs seg there)
+
 -- ---- what was refused
 
 same_refusal : (a b : Refusal) → replies.Refused a ≡ replies.Refused b → a ≡ b
@@ -54,10 +81,10 @@ module _ (name : List ℕ) (now : Found (List ℕ)) (opened : Store) (given : Li
     due_of : (step : Asked (List ℕ)) → IsDueStep of_files s step → IsDueOf given step
     due_of step due = (s.ended, s.answers, subst (λ (g : List ℕ). IsDueStep of_files (record { given = g; ended = s.ended; answers = s.answers }) step) given_is due)
 
-    lacks : (filled : Contents) → IsDueStep of_files s (asked.Seal filled) → n ≡ m → OfWhole given line (λ file. LacksPiece file n.store)
-    lacks filled due others more come =
+    lacks : (offered : List Contents) → IsDueStep of_files s (asked.Seal offered) → n ≡ m → OfWhole given line (λ file. LacksPiece file n.store)
+    lacks offered due others more come =
         subst (λ (g : List ℕ). LacksPiece (g ++ more) n.store) given_is
-        (subst (λ (x : F). LacksPiece (s.given ++ more) x.store) (sym others) (seal_lacks_piece opened s m stores filled due more (follow more come)))
+        (subst (λ (x : F). LacksPiece (s.given ++ more) x.store) (sym others) (seal_lacks_piece opened s m stores offered due more (follow more come)))
 
     -- where a pin was lacked, however the file goes on
     twins : (key : List ℕ) → HasTwins s.given s.ended key → OfWhole given line (λ file. PiecesAreTwins file key)
@@ -75,36 +102,31 @@ module _ (name : List ℕ) (now : Found (List ℕ)) (opened : Store) (given : Li
     claim_cause seg due (refusals.Corrupt slot offset count want got) (keeps, (unknown, others)) = absurd (unknown tt)
     claim_cause seg due refusal refuses = absurd refuses
 
-    seal_cause : (filled : Contents) → IsDueStep of_files s (asked.Seal filled) → (refusal : Refusal) → RefusesSeal of_files 0 filled refusal m n → Cause n refusal
-    seal_cause filled due refusals.Memory others = tt
-    seal_cause filled due (refusals.Unpinned key) ((pins, was, un), others) =
-        let one = unkept_one filled.kind filled.segments pins key un in (
-          (
-            pins,
-            ap (λ (x : F). part_in x 0) others ∙ was,
-            inl (record { kind = filled.kind; segment = one.1 }, (asked.Seal filled, due_of (asked.Seal filled) due, (refl, (one.0, one.2))), one.3),
-          ),
-          twins key (turn_lacks of_files 0 s m n w.some w.keeps (asked.Seal filled) key due ((pins, was, un), others)),
+    seal_cause : (offered : List Contents) → IsDueStep of_files s (asked.Seal offered) → (refusal : Refusal) → RefusesSeal of_files 0 offered refusal m n → Cause n refusal
+    seal_cause offered due refusals.Memory others = tt
+    seal_cause offered due (refusals.Unpinned key) ((pins, was, un), others) =
+        let one = unkept_of offered pins key un in (
+          (pins, ap (λ (x : F). part_in x 0) others ∙ was, inl (one.0, (asked.Seal offered, due_of (asked.Seal offered) due, one.1), one.2)),
+          twins key (turn_lacks of_files 0 s m n w.some w.keeps (asked.Seal offered) key due ((pins, was, un), others)),
         )
-    seal_cause filled due (refusals.Full free) (keeps, free_is, few, others) =
-        (free_is ∙ sym (ap (λ (x : F). free_slots x.store.held) others), few, lacks filled due others)
-    seal_cause filled due refusals.Numbers (slot, least, others) = inl (
+    seal_cause offered due (refusals.Full free) (keeps, free_is, few, others) =
+        (free_is ∙ sym (ap (λ (x : F). free_slots x.store.held) others), few, lacks offered due others)
+    seal_cause offered due refusals.Numbers (slot, least, others) = inl (
       subst (λ (x : F). LAST_ID ≤ x.last_id) (sym others) least,
       subst (λ (x : F). x.last_id ≡ last_id x.store.held) (sym others) stores.last,
       subst (λ (x : F). RESERVE < free_slots x.store.held) (sym others) slot.1,
-      lacks filled due others,
+      lacks offered due others,
     )
-    seal_cause filled due refusals.DiskRead refuses = tt
-    seal_cause filled due (refusals.Clash key at) (slot, known, others) =
-        let first = known tt in
-        let seg : KindSegment = record { kind = filled.kind; segment = first.1 } in (
-          seg,
-          (asked.Seal filled, due_of (asked.Seal filled) due, (refl, (first.0, first.2))),
-          subst (λ (x : F). IsClash x.store x.forgotten seg key at) (sym others) first.4,
+    seal_cause offered due refusals.DiskRead refuses = tt
+    seal_cause offered due (refusals.Clash key at) (slot, known, others) =
+        let first = clash_of (sealed_in offered m) key at m (known tt) in (
+          first.0,
+          (asked.Seal offered, due_of (asked.Seal offered) due, has_taken _ offered first.0 first.1),
+          subst (λ (x : F). IsClash x.store x.forgotten first.0 key at) (sym others) first.2,
         )
-    seal_cause filled due (refusals.Corrupt slot offset count want got) (has, (unknown, others)) = absurd (unknown tt)
-    seal_cause filled due refusals.DiskWrite refuses = tt
-    seal_cause filled due refusal refuses = absurd refuses
+    seal_cause offered due (refusals.Corrupt slot offset count want got) (has, (unknown, others)) = absurd (unknown tt)
+    seal_cause offered due refusals.DiskWrite refuses = tt
+    seal_cause offered due refusal refuses = absurd refuses
 
     -- it writes, as a turn and a commit take it
     right_part : (kind : PartKind) → kind ≡ kind_of (part_in m 0) → kind ≢ kinds.Writing → ⊥
@@ -115,10 +137,10 @@ module _ (name : List ℕ) (now : Found (List ℕ)) (opened : Store) (given : Li
         absurd (right_part kind kind_is (λ e. differ (e ∙ (let both : Some kinds.Writing ≡ Some taken = by in cc))))
     turn_cause (asked.Claim seg) turn due refusals.Memory refuses = claim_cause seg due refusals.Memory refuses
     turn_cause (asked.Claim seg) turn due refusal (right, refuses) = claim_cause seg due refusal refuses
-    turn_cause (asked.Seal filled) turn due (refusals.WrongPart kind) ((kind_is, (taken, by, differ)), others) =
+    turn_cause (asked.Seal offered) turn due (refusals.WrongPart kind) ((kind_is, (taken, by, differ)), others) =
         absurd (right_part kind kind_is (λ e. differ (e ∙ (let both : Some kinds.Writing ≡ Some taken = by in cc))))
-    turn_cause (asked.Seal filled) turn due refusals.Memory refuses = seal_cause filled due refusals.Memory refuses
-    turn_cause (asked.Seal filled) turn due refusal (right, refuses) = seal_cause filled due refusal refuses
+    turn_cause (asked.Seal offered) turn due refusals.Memory refuses = seal_cause offered due refusals.Memory refuses
+    turn_cause (asked.Seal offered) turn due refusal (right, refuses) = seal_cause offered due refusal refuses
     turn_cause step turn due refusal refuses = absurd turn
 
     -- ---- by the commit

@@ -1,5 +1,5 @@
 -- What a step of an `ingest` that is refused leaves of the store.
-use Rattle.store_machine.proofs.Prelude.{◌≡◌, inl, inr, ℕ, None, suc, [], ◌∷◌, Some, Ok, refl, sym, ◌∙◌, ap, subst, KindSegment, Put, Refusal, ReplyValue, Store, with_sealed, Asked, Done, IsDueOf, broken_by, with_name, Refuses, RefusesClaim, RefusesCommit, RefusesSeal, IsDueStep, Session, reply_of, Found, Running, Stopped, of_files}
+use Rattle.store_machine.proofs.Prelude.{◌≡◌, inl, inr, ℕ, None, [], Some, Ok, refl, sym, ◌∙◌, ap, subst, KindSegment, Put, Refusal, ReplyValue, Store, Asked, Done, IsDueOf, broken_by, with_name, Refuses, RefusesClaim, RefusesCommit, RefusesSeal, IsDueStep, Session, reply_of, Found, Running, Stopped, of_files}
 use Rattle.std.proofs.Common.{List}
 use Rattle.std.proofs.lemmas.List.{append-nil}
 use Rattle.container_meta.specs.Segments.{Contents}
@@ -10,17 +10,18 @@ use Rattle.store_model.specs.Trees.{root_of}
 use Rattle.store_machine.specs.Asked as asked
 use Rattle.store_machine.specs.Done as done
 use Rattle.store_machine.specs.Ingests.{IsBroken}
+use Rattle.store_machine.specs.Offers.{sealed_in, stores_with_some}
 use Rattle.store_machine.proofs.Quiet.{F}
 
 -- a claim or a seal
 abbrev pub IsTurn : Asked (List ℕ) → Type 0
 IsTurn (asked.Claim seg) = Unit {0}
-IsTurn (asked.Seal filled) = Unit {0}
+IsTurn (asked.Seal offered) = Unit {0}
 IsTurn step = ⊥
 
 pub due_is_turn : (s : Session) (step : Asked (List ℕ)) → IsDueStep of_files s step → IsTurn step
 due_is_turn s (asked.Claim seg) due = tt
-due_is_turn s (asked.Seal filled) due = tt
+due_is_turn s (asked.Seal offered) due = tt
 due_is_turn s step (dues.Claim, is, asks) = absurd asks
 due_is_turn s step (dues.Seal kind, is, asks) = absurd asks
 due_is_turn s step (dues.Nothing, is, asks) = absurd asks
@@ -34,7 +35,7 @@ pub unrefused : (a : ℕ) (answer : Done) → IsRefusal (reply_of a (Ok answer))
 unrefused a done.Begun is = is
 unrefused a done.Held is = is
 unrefused a done.Absent is = is
-unrefused a (done.Sealed id) is = is
+unrefused a (done.Sealed id count) is = is
 unrefused a (done.Committed sequence) is = is
 unrefused a done.Aborted is = is
 unrefused a (done.Opened count) is = is
@@ -79,33 +80,32 @@ module _ (name : List ℕ) (now : Found (List ℕ)) where
     claim_leaves seg (refusals.Corrupt slot offset count want got) (keeps, (unknown, others)) = absurd (unknown tt)
     claim_leaves seg refusal refuses = absurd refuses
 
-    seal_leaves : (filled : Contents) → IsDueOf given (asked.Seal filled) → (refusal : Refusal) → RefusesSeal of_files 0 filled refusal m n → Rests given refusal m n
-    seal_leaves filled due refusals.Memory others = stays given refusals.Memory m n runs tt others
-    seal_leaves filled due (refusals.Unpinned key) (is, others) = stays given (refusals.Unpinned key) m n runs tt others
-    seal_leaves filled due (refusals.Full free) (keeps, is, few, others) = stays given (refusals.Full free) m n runs tt others
-    seal_leaves filled due refusals.Numbers (slot, none, others) = stays given refusals.Numbers m n runs tt others
-    seal_leaves filled due refusals.DiskRead (slot, others) = stays given refusals.DiskRead m n runs tt others
-    seal_leaves filled due (refusals.Clash key at) (slot, known, others) = stays given (refusals.Clash key at) m n runs tt others
-    seal_leaves filled due (refusals.Corrupt at offset count want got) (slot, (unknown, others)) = absurd (unknown tt)
-    seal_leaves filled due refusals.DiskWrite (slot, fits, others) = record {
+    seal_leaves : (offered : List Contents) → IsDueOf given (asked.Seal offered) → (refusal : Refusal) → RefusesSeal of_files 0 offered refusal m n → Rests given refusal m n
+    seal_leaves offered due refusals.Memory others = stays given refusals.Memory m n runs tt others
+    seal_leaves offered due (refusals.Unpinned key) (is, others) = stays given (refusals.Unpinned key) m n runs tt others
+    seal_leaves offered due (refusals.Full free) (keeps, is, few, others) = stays given (refusals.Full free) m n runs tt others
+    seal_leaves offered due refusals.Numbers (slot, none, others) = stays given refusals.Numbers m n runs tt others
+    seal_leaves offered due refusals.DiskRead (slot, others) = stays given refusals.DiskRead m n runs tt others
+    seal_leaves offered due (refusals.Clash key at) (slot, known, others) = stays given (refusals.Clash key at) m n runs tt others
+    seal_leaves offered due (refusals.Corrupt at offset count want got) (slot, (unknown, others)) = absurd (unknown tt)
+    seal_leaves offered due refusals.DiskWrite (slot, fits, others) = record {
       store = ap (λ (x : F). x.store) others;
       runs = λ not. absurd (not refl);
       broke = λ _. inl (
-        filled.kind,
-        filled.segments,
+        offered,
         (given, [], sym (append-nil given), due),
-        subst (λ (x : F). x.state ≡ Stopped None (with_sealed (suc x.last_id) filled.kind filled.segments x.store ∷ [])) (sym others) refl,
+        subst (λ (x : F). x.state ≡ Stopped None (stores_with_some x.last_id (sealed_in offered x) x.store)) (sym others) refl,
       );
     }
-    seal_leaves filled due refusal refuses = absurd refuses
+    seal_leaves offered due refusal refuses = absurd refuses
 
     pub turn_leaves : (step : Asked (List ℕ)) (refusal : Refusal) → IsTurn step → IsDueOf given step → Refuses of_files 0 step refusal m n → Rests given refusal m n
     turn_leaves (asked.Claim seg) (refusals.WrongPart kind) turn due (wrong, others) = stays given (refusals.WrongPart kind) m n runs tt others
     turn_leaves (asked.Claim seg) refusals.Memory turn due refuses = claim_leaves seg refusals.Memory refuses
     turn_leaves (asked.Claim seg) refusal turn due (right, refuses) = claim_leaves seg refusal refuses
-    turn_leaves (asked.Seal filled) (refusals.WrongPart kind) turn due (wrong, others) = stays given (refusals.WrongPart kind) m n runs tt others
-    turn_leaves (asked.Seal filled) refusals.Memory turn due refuses = seal_leaves filled due refusals.Memory refuses
-    turn_leaves (asked.Seal filled) refusal turn due (right, refuses) = seal_leaves filled due refusal refuses
+    turn_leaves (asked.Seal offered) (refusals.WrongPart kind) turn due (wrong, others) = stays given (refusals.WrongPart kind) m n runs tt others
+    turn_leaves (asked.Seal offered) refusals.Memory turn due refuses = seal_leaves offered due refusals.Memory refuses
+    turn_leaves (asked.Seal offered) refusal turn due (right, refuses) = seal_leaves offered due refusal refuses
     turn_leaves step refusal turn due refuses = absurd turn
 
     module _ (file : List ℕ) (file_is : file ≡ given) (same : m.now ≡ now) where

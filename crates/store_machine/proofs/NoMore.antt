@@ -129,7 +129,7 @@ module _ (m n : F) (r t : G) (was : Forgets m r) (now : Forgets n t) where
   done_adds : (a : ℕ) (step : Asked (List ℕ)) (answer : Done) → Does of_files a step answer m n → AddsToDone a step answer m t
   done_adds a (asked.Claim seg) done.Held does = (does.same tt, (does.held (inl tt)).1)
   done_adds a (asked.Claim seg) done.Absent (keeps, told, others) = told (inl tt)
-  done_adds a (asked.Seal filled) (done.Sealed id) does = does.fits tt
+  done_adds a (asked.Seal offered) (done.Sealed id count) does = does.fits tt
   done_adds a (asked.Commit name file) (done.Committed sequence) does = (does.right, does.whole)
   done_adds a asked.ReadNext (done.Bytes bytes) does = bytes_next a bytes does
   done_adds a asked.GcStep (done.Did phase) does = step_adds phase does
@@ -153,9 +153,9 @@ module _ (m n : F) (r t : G) (was : Forgets m r) (now : Forgets n t) where
   refused_adds : (a : ℕ) (step : Asked (List ℕ)) (refusal : Refusal) → RefusesOn of_files a step refusal m n → AddsToRefused a step refusal m t
   refused_adds a (asked.Claim seg) (refusals.Clash key at) (keeps, known, others) = known tt
   refused_adds a (asked.Claim seg) (refusals.Corrupt slot offset count want got) (keeps, (unknown, others)) = absurd (unknown tt)
-  refused_adds a (asked.Seal filled) (refusals.Clash key at) (has, known, others) = known tt
-  refused_adds a (asked.Seal filled) (refusals.Corrupt slot offset count want got) (has, (unknown, others)) = absurd (unknown tt)
-  refused_adds a (asked.Seal filled) refusals.DiskWrite (has, fits, others) = fits tt
+  refused_adds a (asked.Seal offered) (refusals.Clash key at) (has, known, others) = known tt
+  refused_adds a (asked.Seal offered) (refusals.Corrupt slot offset count want got) (has, (unknown, others)) = absurd (unknown tt)
+  refused_adds a (asked.Seal offered) refusals.DiskWrite (has, fits, others) = fits tt
   refused_adds a (asked.Commit name file) refusals.DiskWrite (may, has, right, whole, others) = (right, whole)
   refused_adds a asked.ReadNext refusals.DiskRead refuses = still_there a refuses
   refused_adds a asked.ReadNext (refusals.Corrupt slot offset count want got) (file, rest, after, reads, stays, others) =
@@ -176,7 +176,7 @@ module _ (m n : F) (r t : G) (was : Forgets m r) (now : Forgets n t) where
   -- nothing is added to a refusal for what the actor is at
   wrong_part : (a : ℕ) (step : Asked (List ℕ)) (kind : PartKind) → AddsToRefused a step (refusals.WrongPart kind) m t
   wrong_part a (asked.Claim seg) kind = tt
-  wrong_part a (asked.Seal filled) kind = tt
+  wrong_part a (asked.Seal offered) kind = tt
   wrong_part a (asked.Commit name file) kind = tt
   wrong_part a asked.ReadNext kind = tt
   wrong_part a (asked.GcStart percent) kind = tt
@@ -186,7 +186,7 @@ module _ (m n : F) (r t : G) (was : Forgets m r) (now : Forgets n t) where
   -- nor because it is stopped
   when_stopped : (a : ℕ) (step : Asked (List ℕ)) (at : ℕ) → AddsToRefused a step (refusals.Stopped at) m t
   when_stopped a (asked.Claim seg) at = tt
-  when_stopped a (asked.Seal filled) at = tt
+  when_stopped a (asked.Seal offered) at = tt
   when_stopped a (asked.Commit name file) at = tt
   when_stopped a asked.ReadNext at = tt
   when_stopped a (asked.GcStart percent) at = tt

@@ -19,7 +19,7 @@ IsFine step = Unit {0}
 abbrev pub IsRead : Asked (List ℕ) → Type 0
 IsRead asked.Begin = ⊥
 IsRead (asked.Claim seg) = ⊥
-IsRead (asked.Seal filled) = ⊥
+IsRead (asked.Seal offered) = ⊥
 IsRead (asked.Commit name file) = ⊥
 IsRead (asked.Delete name) = ⊥
 IsRead asked.Reopen = ⊥
@@ -48,7 +48,7 @@ ok_good (x ∷ z ∷ xs) ys ok good = (ok.0, ok.1, ok_good (z ∷ xs) ys ok.2 go
 pub fine_of : (step : Asked (List ℕ)) → IsQuiet step → IsFine step
 fine_of asked.Begin quiet = tt
 fine_of (asked.Claim seg) quiet = tt
-fine_of (asked.Seal filled) quiet = tt
+fine_of (asked.Seal offered) quiet = tt
 fine_of step quiet = absurd quiet
 
 is_told : (told : Result Done Refusal) (answer : Answer) → answer_of told ≡ Some answer → IsTold told
@@ -109,7 +109,7 @@ fine_goes : (a : ℕ) (step : Asked (List ℕ)) (told : Result Done Refusal) (m 
     → Legal of_files (record { actor = a; asked = step; answer = told }) m n → Goes m n
 fine_goes a asked.Begin (Ok answer) m n fine ok runs legal = step_done a asked.Begin answer m n tt runs legal
 fine_goes a (asked.Claim seg) (Ok answer) m n fine ok runs legal = step_done a (asked.Claim seg) answer m n tt runs legal
-fine_goes a (asked.Seal filled) (Ok answer) m n fine ok runs legal = step_done a (asked.Seal filled) answer m n tt runs legal
+fine_goes a (asked.Seal offered) (Ok answer) m n fine ok runs legal = step_done a (asked.Seal offered) answer m n tt runs legal
 fine_goes a asked.Reopen (Ok answer) m n fine ok runs legal = reopen_goes answer m n runs legal
 fine_goes a (asked.OpenRead name) (Ok answer) m n fine ok runs legal = reads_go a (asked.OpenRead name) answer m n tt runs
     (by_running a (asked.OpenRead name) (Ok answer) m n runs legal)

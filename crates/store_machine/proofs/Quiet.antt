@@ -1,10 +1,12 @@
 -- Steps that change no name, and turns.
 use Rattle.store_machine.proofs.Prelude.{◌≡◌, ℕ, [], ◌∷◌, ◌++◌, Some, None, Result, Ok, Err, refl, sym, ◌∙◌, ap, subst, Answer, Refusal, Store, Asked, Done, Answers, ByState, Does, Legal, Refuses, RefusesClaim, RefusesOn, RefusesSeal, AreTurns, IsDueStep, Session, answer_of, Machine, RunState, Running, Stopped, Stepped, Run, of_files}
-use Rattle.std.proofs.Common.{List}
+use Rattle.std.proofs.Common.{List, take}
+use Rattle.container_meta.specs.Segments.{Contents}
 use Rattle.ingest_session.specs.declared.due.Due.TheVariants as dues
 use Rattle.refusals.specs.declared.refusal.Refusal.TheVariants as refusals
 use Rattle.store_machine.specs.Asked as asked
 use Rattle.store_machine.specs.Done as done
+use Rattle.store_machine.proofs.Added.{each_added}
 
 abbrev pub F : Type 0
 F = Machine (List ℕ) (List (List ℕ))
@@ -15,7 +17,7 @@ Step = Stepped (List ℕ)
 abbrev pub IsQuiet : Asked (List ℕ) → Type 0
 IsQuiet asked.Begin = Unit {0}
 IsQuiet (asked.Claim seg) = Unit {0}
-IsQuiet (asked.Seal filled) = Unit {0}
+IsQuiet (asked.Seal offered) = Unit {0}
 IsQuiet step = ⊥
 
 -- it runs, or is stopped with no command in doubt
@@ -47,10 +49,12 @@ pub does_go : (a : ℕ) (step : Asked (List ℕ)) (answer : Done) (m n : F) → 
 does_go a asked.Begin done.Begun m n quiet runs (is, others) = record { now = ap (λ (x : F). x.now) others; state = ap (λ (x : F). x.state) others ∙ runs }
 does_go a (asked.Claim seg) done.Held m n quiet runs does = record { now = ap (λ (x : F). x.now) does.others; state = ap (λ (x : F). x.state) does.others ∙ runs }
 does_go a (asked.Claim seg) done.Absent m n quiet runs (keeps, told, others) = stays m n runs others
-does_go a (asked.Seal filled) (done.Sealed id) m n quiet runs does = record { now = ap (λ (x : F). x.now) does.others; state = ap (λ (x : F). x.state) does.others ∙ runs }
+does_go a (asked.Seal offered) (done.Sealed id count) m n quiet runs does =
+    each_added a (Goes m) (λ c k l one goes. record { now = ap (λ (x : F). x.now) one.others ∙ goes.now; state = ap (λ (x : F). x.state) one.others ∙ goes.state })
+    (take count offered) m n does.adds (record { now = refl; state = runs })
 does_go a asked.Begin answer m n quiet runs does = absurd does
 does_go a (asked.Claim seg) answer m n quiet runs does = absurd does
-does_go a (asked.Seal filled) answer m n quiet runs does = absurd does
+does_go a (asked.Seal offered) answer m n quiet runs does = absurd does
 does_go a step answer m n quiet runs does = absurd quiet
 
 -- ---- one that is refused
@@ -69,21 +73,21 @@ claim_rests a seg (refusals.Clash key at) m n runs (keeps, known, others) = rest
 claim_rests a seg (refusals.Corrupt slot offset count want got) m n runs (keeps, (unknown, others)) = rests m n runs others
 claim_rests a seg refusal m n runs refuses = absurd refuses
 
-seal_rests : (a : ℕ) (filled : _) (refusal : Refusal) (m n : F) → m.state ≡ Running → RefusesSeal of_files a filled refusal m n → Quiet m n
-seal_rests a filled refusals.Memory m n runs others = rests m n runs others
-seal_rests a filled (refusals.Unpinned key) m n runs (is, others) = rests m n runs others
-seal_rests a filled (refusals.Full free) m n runs (keeps, is, few, others) = rests m n runs others
-seal_rests a filled refusals.Numbers m n runs (slot, none, others) = rests m n runs others
-seal_rests a filled refusals.DiskRead m n runs (slot, others) = rests m n runs others
-seal_rests a filled (refusals.Clash key at) m n runs (slot, known, others) = rests m n runs others
-seal_rests a filled (refusals.Corrupt at offset count want got) m n runs (slot, (unknown, others)) = rests m n runs others
-seal_rests a filled refusals.DiskWrite m n runs (slot, fits, others) = stops _ m n others
-seal_rests a filled refusal m n runs refuses = absurd refuses
+seal_rests : (a : ℕ) (offered : List Contents) (refusal : Refusal) (m n : F) → m.state ≡ Running → RefusesSeal of_files a offered refusal m n → Quiet m n
+seal_rests a offered refusals.Memory m n runs others = rests m n runs others
+seal_rests a offered (refusals.Unpinned key) m n runs (is, others) = rests m n runs others
+seal_rests a offered (refusals.Full free) m n runs (keeps, is, few, others) = rests m n runs others
+seal_rests a offered refusals.Numbers m n runs (slot, none, others) = rests m n runs others
+seal_rests a offered refusals.DiskRead m n runs (slot, others) = rests m n runs others
+seal_rests a offered (refusals.Clash key at) m n runs (slot, known, others) = rests m n runs others
+seal_rests a offered (refusals.Corrupt at offset count want got) m n runs (slot, (unknown, others)) = rests m n runs others
+seal_rests a offered refusals.DiskWrite m n runs (slot, fits, others) = stops _ m n others
+seal_rests a offered refusal m n runs refuses = absurd refuses
 
 on_rests : (a : ℕ) (step : Asked (List ℕ)) (refusal : Refusal) (m n : F) → IsQuiet step → m.state ≡ Running → RefusesOn of_files a step refusal m n → Quiet m n
 on_rests a asked.Begin refusal m n quiet runs refuses = absurd refuses
 on_rests a (asked.Claim seg) refusal m n quiet runs refuses = claim_rests a seg refusal m n runs refuses
-on_rests a (asked.Seal filled) refusal m n quiet runs refuses = seal_rests a filled refusal m n runs refuses
+on_rests a (asked.Seal offered) refusal m n quiet runs refuses = seal_rests a offered refusal m n runs refuses
 on_rests a step refusal m n quiet runs refuses = absurd quiet
 
 refused_rests : (a : ℕ) (step : Asked (List ℕ)) (refusal : Refusal) (m n : F) → IsQuiet step → m.state ≡ Running → Refuses of_files a step refusal m n → Quiet m n
@@ -101,7 +105,7 @@ pub by_of : (a : ℕ) (step : Asked (List ℕ)) (told : Result Done Refusal) (m 
     → ByState of_files m.state a step told m n
 by_of a asked.Begin told m n quiet legal = legal
 by_of a (asked.Claim seg) told m n quiet legal = legal
-by_of a (asked.Seal filled) told m n quiet legal = legal
+by_of a (asked.Seal offered) told m n quiet legal = legal
 by_of a step told m n quiet legal = absurd quiet
 
 pub step_done : (a : ℕ) (step : Asked (List ℕ)) (answer : Done) (m n : F) → IsQuiet step → m.state ≡ Running
@@ -120,7 +124,7 @@ step_quiet a step told m n quiet runs legal = quiet_by a step told m n quiet run
 
 pub due_is_quiet : (s : Session) (step : Asked (List ℕ)) → IsDueStep of_files s step → IsQuiet step
 due_is_quiet s (asked.Claim seg) due = tt
-due_is_quiet s (asked.Seal filled) due = tt
+due_is_quiet s (asked.Seal offered) due = tt
 due_is_quiet s asked.Begin (dues.Claim, is, asks) = absurd asks
 due_is_quiet s asked.Begin (dues.Seal kind, is, asks) = absurd asks
 due_is_quiet s asked.Begin (dues.Nothing, is, asks) = absurd asks

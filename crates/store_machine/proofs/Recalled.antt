@@ -46,17 +46,17 @@ module _ (m : F) (r : G) (same : Forgets m r) where
 
   -- ---- what a step asks for
 
-  abbrev pub keeps_back : (a : ℕ) (unkept : PinMap → Option (List ℕ)) (kind : _) → Keeps of_roots a kind unkept r → Keeps of_files a kind unkept m
-  keeps_back a unkept kind k = record { pins = k.pins; writing = writing a k.pins k.writing; children = k.children }
+  abbrev pub keeps_back : (a : ℕ) (unkept : PinMap → Option (List ℕ)) → Keeps of_roots a unkept r → Keeps of_files a unkept m
+  keeps_back a unkept k = record { pins = k.pins; writing = writing a k.pins k.writing; children = k.children }
 
   pub unkept_back : (a : ℕ) (unkept : PinMap → Option (List ℕ)) (key : List ℕ) → IsUnkept of_roots a unkept key r → IsUnkept of_files a unkept key m
   unkept_back a unkept key (pins, is, first) = (pins, writing a pins is, first)
 
-  pub slot_back : (a : ℕ) (filled : Contents) → HasSlot of_roots a filled r → HasSlot of_files a filled m
-  slot_back a filled (keeps, free) = (keeps_back a _ filled.kind keeps, on_store (λ s. RESERVE < free_slots s.held) free)
+  pub slot_back : (a : ℕ) (offered : List Contents) → HasSlot of_roots a offered r → HasSlot of_files a offered m
+  slot_back a offered (keeps, free) = (keeps_back a _ keeps, on_store (λ s. RESERVE < free_slots s.held) free)
 
-  pub id_back : (a : ℕ) (filled : Contents) → HasSlotAndId of_roots a filled r → HasSlotAndId of_files a filled m
-  id_back a filled (slot, id) = (slot_back a filled slot, on_id (λ id. id < LAST_ID) id)
+  pub id_back : (a : ℕ) (offered : List Contents) → HasSlotAndId of_roots a offered r → HasSlotAndId of_files a offered m
+  id_back a offered (slot, id) = (slot_back a offered slot, on_id (λ id. id < LAST_ID) id)
 
   pub knows : (name : List ℕ) → HasName of_roots name r → HasName of_files name m
   knows name is = sym (knows_same m.now r.now same.now name) ∙ is

@@ -1,11 +1,12 @@
 -- A step that the machine of roots does, no step of a collection, is one that the machine of files does.
-use Rattle.store_machine.proofs.Prelude.{◌≡◌, ℕ, suc, [], ◌∷◌, Contains, refl, sym, ◌∙◌, ap, subst, AllByRecursion, PinMap, pin_of, KindSegment, segment_key, Root, Put, Gone, start_of, PartKind, segments_of, CanSeal, with_change, with_sealed, Forgets, Rests, SamePart, Claims, Deletes, GivesBytes, GivesUp, IsAtEnd, OpensValue, Seals, with_name, without_name, Idle, Writing, Reading, keeping, one_more, part_in, put_at, HasCopy, forgotten_beside, keys_of, with_pins, ComesNext, of_files, of_roots, top_of}
-use Rattle.std.proofs.Common.{List}
+use Rattle.store_machine.proofs.Prelude.{◌≡◌, ◌+◌, ℕ, suc, [], ◌∷◌, Contains, refl, sym, ◌∙◌, ap, subst, PinMap, pin_of, KindSegment, segment_key, Root, Put, Gone, start_of, PartKind, segments_of, with_change, Forgets, Rests, SamePart, Claims, Deletes, GivesBytes, GivesUp, IsAtEnd, OpensValue, Seals, with_name, without_name, Idle, Writing, Reading, keeping, one_more, part_in, put_at, HasCopy, ComesNext, of_files, of_roots, top_of}
+use Rattle.std.proofs.Common.{List, take}
 use Rattle.std.specs.FinMap as finite
 use Rattle.container_meta.specs.Segments.{Contents}
 use Rattle.store_model.specs.Trees.{root_of}
-use Rattle.store_machine.specs.Legal.{Commits, Fits}
+use Rattle.store_machine.specs.Legal.{AllFit, Commits}
 use Rattle.store_machine.specs.Remembering.{IsWhole}
+use Rattle.store_machine.proofs.AddedSame.{all_added_back, sealed_same}
 use Rattle.store_machine.proofs.Parts.{F, G, set_at, set_told}
 use Rattle.store_machine.proofs.Recalled.{Recalls, goes, stays, put, idle, kept_now, keeps_back, kind_is, knows, may_commit, numbers, reading}
 use Rattle.store_machine.proofs.SameNames.{file_back, gone_same, put_same}
@@ -24,7 +25,7 @@ module _ (m : F) (r : G) (same : Forgets m r) where
       goes m r same (λ n. Claims of_files a seg m n) t (record (put_at r a (Writing part)) { collection = keeping keys r.collection })
       (record (put_at m a (Writing part)) { collection = keeping keys m.collection }) c.others
       (record {
-        may = keeps_back m r same a _ seg.kind c.may;
+        may = keeps_back m r same a _ c.may;
         held = λ indexed. ((copy.copy, copy.copy_is, copy.length_is), there);
         same = λ known. copy;
         others = refl;
@@ -41,44 +42,22 @@ module _ (m : F) (r : G) (same : Forgets m r) where
         state = same.state;
       })
 
-  pub sealed : (a : ℕ) (filled : Contents) (id : ℕ) (t : G) → Seals of_roots a filled id r t → AllByRecursion (Fits m.store m.forgotten filled.kind) filled.segments
-      → Left (λ n. Seals of_files a filled id m n) t
-  sealed a filled id t c fits =
-      let keys = keys_of filled.kind filled.segments in
-      let part : PinMap = with_pins filled.kind filled.segments c.may.pins in
-      let o : G =
-      record (put_at r a (Writing part)) {
-        store = with_sealed id filled.kind filled.segments r.store;
-        last_id = id;
-        forgotten = forgotten_beside keys r.forgotten;
-        collection = keeping keys r.collection;
-      } in
-      let n : F =
-      record (put_at m a (Writing part)) {
-        store = with_sealed id filled.kind filled.segments m.store;
-        last_id = id;
-        forgotten = forgotten_beside keys m.forgotten;
-        collection = keeping keys m.collection;
-      } in
-      goes m r same (λ n. Seals of_files a filled id m n) t o n c.others
-      (record {
-        may = keeps_back m r same a _ filled.kind c.may;
-        fits = λ told. fits;
-        id_is = c.id_is ∙ ap suc same.last_id;
-        can = subst (CanSeal id filled.kind filled.segments) same.store c.can;
-        others = refl;
-      })
-      (record {
-        now = same.now;
-        parts = set_at m.parts r.parts a (Writing part) (Writing part) same.parts refl;
-        store = ap (with_sealed id filled.kind filled.segments) same.store;
-        last_id = refl;
-        forgotten = ap (forgotten_beside keys) same.forgotten;
-        swept = same.swept;
-        collection = kept_now m r same keys;
-        acknowledged = same.acknowledged;
-        state = same.state;
-      })
+  pub sealed : (a : ℕ) (offered : List Contents) (id count : ℕ) (t : G) → Seals of_roots a offered id count r t → AllFit of_files (take count offered) m
+      → Left (λ n. Seals of_files a offered id count m n) t
+  sealed a offered id count t c fits =
+      let left = all_added_back a (take count offered) m r t same c.adds in (
+        left.0,
+        record {
+          offer = c.offer;
+          may = keeps_back m r same a _ c.may;
+          count_is = c.count_is ∙ sealed_same m r same offered;
+          some = c.some;
+          fits = λ told. fits;
+          id_is = c.id_is ∙ ap (λ (k : ℕ). k + count) same.last_id;
+          adds = left.1;
+        },
+        left.2,
+      )
 
   pub committed : (a : ℕ) (name file : List ℕ) (sequence : ℕ) (t : G) → Commits of_roots a name (root_of file) sequence r t → IsWhole file m
       → Left (λ n. Commits of_files a name file sequence m n) t

@@ -1,11 +1,13 @@
 -- What the machine of roots refuses the machine of files refuses, where its content tells it.
-use Rattle.store_machine.proofs.Prelude.{◌≡◌, inl, inr, ◌<◌, ◌≤◌, ℕ, suc, [], ◌∷◌, Some, None, refl, sym, ◌∙◌, ap, subst, KindSegment, Put, Gone, LAST_ID, MOST_NAMES, Top, Refusal, free_slots, with_sealed, Asked, Forgets, Rests, SamePart, asked_of, IsAtRightPart, Refuses, RefusesClaim, RefusesCommit, RefusesDelete, RefusesGcStep, RefusesOn, RefusesRead, RefusesSeal, broken_by, with_name, without_name, Reading, part_in, put_at, AddsToRefused, IsStuck, StaysAt, of_files, of_roots}
+use Rattle.store_machine.proofs.Prelude.{◌≡◌, inl, inr, ◌<◌, ◌≤◌, ℕ, [], ◌∷◌, Some, None, refl, sym, ◌∙◌, ap, subst, KindSegment, Put, Gone, LAST_ID, MOST_NAMES, Top, Refusal, free_slots, Asked, Forgets, Rests, SamePart, asked_of, IsAtRightPart, Refuses, RefusesClaim, RefusesCommit, RefusesDelete, RefusesGcStep, RefusesOn, RefusesRead, RefusesSeal, broken_by, with_name, without_name, Reading, part_in, put_at, AddsToRefused, IsStuck, StaysAt, of_files, of_roots}
 use Rattle.std.proofs.Common.{List}
 use Rattle.container_meta.specs.Segments.{Contents}
 use Rattle.refusals.specs.declared.refusal.Phase.TheVariants as phases
 use Rattle.refusals.specs.declared.refusal.Refusal.TheVariants as refusals
 use Rattle.store_model.specs.Trees.{root_of}
 use Rattle.store_machine.specs.Asked as asked
+use Rattle.store_machine.specs.Offers.{sealed_in, stores_with_some}
+use Rattle.store_machine.proofs.AddedSame.{stores_same}
 use Rattle.store_machine.proofs.Forgotten.{taken_same}
 use Rattle.store_machine.proofs.Parts.{F, G, put_told, set_told}
 use Rattle.store_machine.proofs.Recalled.{Recalls, goes, stays, stop, id_back, keeps_back, kind_is, knows, may_commit, no_numbers, none_runs, numbers, on_id, on_store, reading, rooms, runs, slot_back, unkept_back, writing}
@@ -27,32 +29,31 @@ module _ (m : F) (r : G) (same : Forgets m r) where
       stays m r same (λ n. RefusesClaim of_files a seg (refusals.Unpinned key) m n) t others (unkept_back m r same a _ key is, refl)
   unclaimed a seg refusals.Memory t others adds = stays m r same (λ n. RefusesClaim of_files a seg refusals.Memory m n) t others refl
   unclaimed a seg refusals.DiskRead t (keeps, others) adds =
-      stays m r same (λ n. RefusesClaim of_files a seg refusals.DiskRead m n) t others (keeps_back m r same a _ seg.kind keeps, refl)
+      stays m r same (λ n. RefusesClaim of_files a seg refusals.DiskRead m n) t others (keeps_back m r same a _ keeps, refl)
   unclaimed a seg (refusals.Clash key at) t (keeps, known, others) adds =
-      stays m r same (λ n. RefusesClaim of_files a seg (refusals.Clash key at) m n) t others (keeps_back m r same a _ seg.kind keeps, (λ told. adds), refl)
+      stays m r same (λ n. RefusesClaim of_files a seg (refusals.Clash key at) m n) t others (keeps_back m r same a _ keeps, (λ told. adds), refl)
   unclaimed a seg (refusals.Corrupt slot offset count want got) t refuses adds = absurd adds
   unclaimed a seg refusal t refuses adds = absurd refuses
 
-  unsealed : (a : ℕ) (filled : Contents) (refusal : Refusal) (t : G) → RefusesSeal of_roots a filled refusal r t → Added a (asked.Seal filled) refusal t
-      → Left (λ n. RefusesSeal of_files a filled refusal m n) t
-  unsealed a filled refusals.Memory t others adds = stays m r same (λ n. RefusesSeal of_files a filled refusals.Memory m n) t others refl
-  unsealed a filled (refusals.Unpinned key) t (is, others) adds =
-      stays m r same (λ n. RefusesSeal of_files a filled (refusals.Unpinned key) m n) t others (unkept_back m r same a _ key is, refl)
-  unsealed a filled (refusals.Full free) t (keeps, is, few, others) adds =
-      stays m r same (λ n. RefusesSeal of_files a filled (refusals.Full free) m n) t others
-      (keeps_back m r same a _ filled.kind keeps, on_store m r same (λ s. free ≡ free_slots s.held) is, few, refl)
-  unsealed a filled refusals.Numbers t (slot, none, others) adds =
-      stays m r same (λ n. RefusesSeal of_files a filled refusals.Numbers m n) t others (slot_back m r same a filled slot, on_id m r same (λ id. LAST_ID ≤ id) none, refl)
-  unsealed a filled refusals.DiskRead t (has, others) adds =
-      stays m r same (λ n. RefusesSeal of_files a filled refusals.DiskRead m n) t others (id_back m r same a filled has, refl)
-  unsealed a filled (refusals.Clash key at) t (has, known, others) adds =
-      stays m r same (λ n. RefusesSeal of_files a filled (refusals.Clash key at) m n) t others (id_back m r same a filled has, (λ told. adds), refl)
-  unsealed a filled (refusals.Corrupt at offset count want got) t refuses adds = absurd adds
-  unsealed a filled refusals.DiskWrite t (has, known, others) adds =
-      stop m r same (λ n. RefusesSeal of_files a filled refusals.DiskWrite m n) t None None (with_sealed (suc m.last_id) filled.kind filled.segments m.store ∷ [])
-      (with_sealed (suc r.last_id) filled.kind filled.segments r.store ∷ []) others
-      (λ i. with_sealed (suc (same.last_id i)) filled.kind filled.segments (same.store i) ∷ []) (id_back m r same a filled has, (λ told. adds), refl)
-  unsealed a filled refusal t refuses adds = absurd refuses
+  unsealed : (a : ℕ) (offered : List Contents) (refusal : Refusal) (t : G) → RefusesSeal of_roots a offered refusal r t → Added a (asked.Seal offered) refusal t
+      → Left (λ n. RefusesSeal of_files a offered refusal m n) t
+  unsealed a offered refusals.Memory t others adds = stays m r same (λ n. RefusesSeal of_files a offered refusals.Memory m n) t others refl
+  unsealed a offered (refusals.Unpinned key) t (is, others) adds =
+      stays m r same (λ n. RefusesSeal of_files a offered (refusals.Unpinned key) m n) t others (unkept_back m r same a _ key is, refl)
+  unsealed a offered (refusals.Full free) t (keeps, is, few, others) adds =
+      stays m r same (λ n. RefusesSeal of_files a offered (refusals.Full free) m n) t others
+      (keeps_back m r same a _ keeps, on_store m r same (λ s. free ≡ free_slots s.held) is, few, refl)
+  unsealed a offered refusals.Numbers t (slot, none, others) adds =
+      stays m r same (λ n. RefusesSeal of_files a offered refusals.Numbers m n) t others (slot_back m r same a offered slot, on_id m r same (λ id. LAST_ID ≤ id) none, refl)
+  unsealed a offered refusals.DiskRead t (has, others) adds =
+      stays m r same (λ n. RefusesSeal of_files a offered refusals.DiskRead m n) t others (id_back m r same a offered has, refl)
+  unsealed a offered (refusals.Clash key at) t (has, known, others) adds =
+      stays m r same (λ n. RefusesSeal of_files a offered (refusals.Clash key at) m n) t others (id_back m r same a offered has, (λ told. adds), refl)
+  unsealed a offered (refusals.Corrupt at offset count want got) t refuses adds = absurd adds
+  unsealed a offered refusals.DiskWrite t (has, known, others) adds =
+      stop m r same (λ n. RefusesSeal of_files a offered refusals.DiskWrite m n) t None None (stores_with_some m.last_id (sealed_in offered m) m.store)
+      (stores_with_some r.last_id (sealed_in offered r) r.store) others (stores_same m r same offered) (id_back m r same a offered has, (λ told. adds), refl)
+  unsealed a offered refusal t refuses adds = absurd refuses
 
   uncommitted : (a : ℕ) (name file : List ℕ) (refusal : Refusal) (t : G) → RefusesCommit of_roots a name (root_of file) refusal r t
       → Added a (asked.Commit name file) refusal t → Left (λ n. RefusesCommit of_files a name file refusal m n) t
@@ -150,7 +151,7 @@ module _ (m : F) (r : G) (same : Forgets m r) where
   refused_on : (a : ℕ) (step : Asked (List ℕ)) (refusal : Refusal) (t : G) → RefusesOn of_roots a (asked_of step) refusal r t → Added a step refusal t
       → Left (λ n. RefusesOn of_files a step refusal m n) t
   refused_on a (asked.Claim seg) refusal t refuses adds = unclaimed a seg refusal t refuses adds
-  refused_on a (asked.Seal filled) refusal t refuses adds = unsealed a filled refusal t refuses adds
+  refused_on a (asked.Seal offered) refusal t refuses adds = unsealed a offered refusal t refuses adds
   refused_on a (asked.Commit name file) refusal t refuses adds = uncommitted a name file refusal t refuses adds
   refused_on a (asked.OpenRead name) refusals.Memory t others adds = stays m r same (λ n. RefusesOn of_files a (asked.OpenRead name) refusals.Memory m n) t others refl
   refused_on a (asked.OpenRead name) refusals.BadName t (bad, others) adds =

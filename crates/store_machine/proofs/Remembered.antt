@@ -28,8 +28,8 @@ module _ (m : F) (r : G) (same : Forgets m r) where
       (idle m r same a is, refl) (put m r same a (Writing finite.empty) (Writing finite.empty) refl)
   done_back a (asked.Claim seg) done.Held t does adds = claimed m r same a seg t does adds.0 adds.1
   done_back a (asked.Claim seg) done.Absent t (keeps, told, others) adds =
-      stays m r same (λ n. Does of_files a (asked.Claim seg) done.Absent m n) t others (keeps_back m r same a _ seg.kind keeps, (λ indexed. adds), refl)
-  done_back a (asked.Seal filled) (done.Sealed id) t does adds = sealed m r same a filled id t does adds
+      stays m r same (λ n. Does of_files a (asked.Claim seg) done.Absent m n) t others (keeps_back m r same a _ keeps, (λ indexed. adds), refl)
+  done_back a (asked.Seal offered) (done.Sealed id count) t does adds = sealed m r same a offered id count t does adds
   done_back a (asked.Commit name file) (done.Committed sequence) t does adds = committed m r same a name file sequence t does adds
   done_back a asked.Abort done.Aborted t does adds = given_up m r same a kinds.Writing t does
   done_back a (asked.OpenRead name) (done.Opened count) t does adds = opened m r same a name count t does

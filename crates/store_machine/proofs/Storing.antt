@@ -32,11 +32,13 @@ use Rattle.ingest_session.proofs.Waiting.{claimed_has_turn, session_of, waits_fo
 use Rattle.store_machine.specs.Asked as asked
 use Rattle.store_machine.specs.Done as done
 use Rattle.store_machine.specs.Ingests.{IsSealFor}
-use Rattle.store_machine.specs.Legal.{IsLacked}
+use Rattle.store_machine.specs.Needs.{IsLacked}
+use Rattle.store_machine.specs.Offers.{AddsContainer}
 use Rattle.store_machine.specs.Needs.{HasLength, forgotten_beside, keys_of}
 use Rattle.store_machine.specs.Storing.{AddsOnce, AsksPieces, HoldsFile, LacksPiece}
 use Rattle.store_machine.proofs.Lacking.{key_is}
 use Rattle.store_machine.proofs.Pinned.{same_told, told_of}
+use Rattle.store_machine.proofs.Added.{seals_alone}
 use Rattle.store_machine.proofs.Quiet.{F, Step, answers as answers_of, by_of, due_is_quiet, step_done, told_ok}
 use Rattle.store_machine.proofs.SweptAlone.{makes_then}
 
@@ -65,7 +67,8 @@ adds_then file (FreeContainer slot ∷ xs) s t id kind segments makes before one
 -- ---- what was sealed, of a longer file
 
 seal_on : (given more : List ℕ) (change : StoreChange) → IsSealFor given change → IsSealFor (given ++ more) change
-seal_on given more (SealContainer id kind segments) (part, rest, is, due) = (part, rest ++ more, ap (λ (g : List ℕ). g ++ more) is ∙ append_assoc part rest more, due)
+seal_on given more (SealContainer id kind segments) (offered, (part, rest, is, due), one) =
+    (offered, (part, rest ++ more, ap (λ (g : List ℕ). g ++ more) is ∙ append_assoc part rest more, due), one)
 seal_on given more (ChangeName name change) is = absurd is
 seal_on given more (FlushContainer id kind segments) is = absurd is
 seal_on given more (FreeContainer slot) is = absurd is
@@ -274,20 +277,22 @@ module _ (opened : Store) where
             both P Q [] one other = tt
             both P Q (y ∷ ys) one other = ((one.0, other.0), both P Q ys one.1 other.1)
 
-      pub sealed_stores : IsDueOf h.given (asked.Seal filled) → Seals of_files 0 filled id m n → Stores opened (next (answers.Sealed id)) n
-      sealed_stores due_of does =
-          let store : n.store ≡ with_sealed id mine segments m.store = ap (λ (z : F). z.store) does.others in
+      pub sealed_stores : IsDueOf h.given (asked.Seal (filled ∷ [])) → AddsContainer 0 filled m n → id ≡ suc m.last_id → Stores opened (next (answers.Sealed id)) n
+      sealed_stores due_of one id_is =
+          let can : CanSeal id mine segments m.store = subst (λ (k : ℕ). CanSeal k mine segments m.store) (sym id_is) one.can in
+          let store : n.store ≡ with_sealed id mine segments m.store =
+          ap (λ (z : F). z.store) one.others ∙ ap (λ (k : ℕ). with_sealed k mine segments m.store) (sym id_is) in
           let change : StoreChange = SealContainer id mine segments in
           record {
             changes = stores.changes ++ change ∷ [];
-            makes = makes_then stores.changes (change ∷ []) opened m.store n.store stores.makes (does.can, store);
-            seals = seals_then h.given stores.changes change stores.seals (h.given, [], sym (append-nil h.given), due_of);
-            once = once_now does.can store does.id_is;
-            kept = kept_now does.can store;
-            fresh = fresh_now does.can store;
-            forgotten = ap (λ (z : F). z.forgotten) does.others ∙ ap (forgotten_beside (keys_of mine segments)) stores.forgotten;
-            last = ap (λ (z : F). z.last_id) does.others
-                ∙ sym (ap (λ (t : Store). last_id t.held) store ∙ last_new (header_of id mine segments) m.store.held (some does.can store) does.can.new_id);
+            makes = makes_then stores.changes (change ∷ []) opened m.store n.store stores.makes (can, store);
+            seals = seals_then h.given stores.changes change stores.seals (filled ∷ [], (h.given, [], sym (append-nil h.given), due_of), inl (refl, refl));
+            once = once_now can store id_is;
+            kept = kept_now can store;
+            fresh = fresh_now can store;
+            forgotten = ap (λ (z : F). z.forgotten) one.others ∙ ap (forgotten_beside (keys_of mine segments)) stores.forgotten;
+            last = ap (λ (z : F). z.last_id) one.others ∙ sym id_is
+                ∙ sym (ap (λ (t : Store). last_id t.held) store ∙ last_new (header_of id mine segments) m.store.held (some can store) can.new_id);
           }
 
   -- ---- a turn
@@ -322,28 +327,30 @@ module _ (opened : Store) where
     absent_turn seg (dues.Seal kind, is, asks) lacks others = absurd asks
     absent_turn seg (dues.Nothing, is, asks) lacks others = absurd asks
 
-    seal_turn : (filled : Contents) (id : ℕ) → IsDueStep of_files s (asked.Seal filled) → Seals of_files 0 filled id m n → After (answers.Sealed id)
-    seal_turn filled id (dues.Seal kind, is, filled_is) does =
-        let whole : ◌≡◌ {A = Contents} filled (record { kind = kind; segments = (open_of is.session kind).segments }) = filled_is ∙ open_is is.session is.history is.has kind in
-        let due_of : IsDueOf is.history.given (asked.Seal filled) = (
+    seal_turn : (offered : List Contents) (id count : ℕ) → IsDueStep of_files s (asked.Seal offered) → Seals of_files 0 offered id count m n → After (answers.Sealed id)
+    seal_turn offered id count (dues.Seal kind, is, offered_is) does =
+        let filled : Contents = record { kind = kind; segments = (open_of is.session kind).segments } in
+        let whole : offered ≡ filled ∷ [] = offered_is ∙ ap (λ (c : Contents). c ∷ []) (open_is is.session is.history is.has kind) in
+        let due_of : IsDueOf is.history.given (asked.Seal offered) = (
           s.ended,
           s.answers,
-          subst (λ (g : List ℕ). IsDueStep of_files (record { given = g; ended = s.ended; answers = s.answers }) (asked.Seal filled)) (sym is.given_is)
-              (dues.Seal kind, is, filled_is),
+          subst (λ (g : List ℕ). IsDueStep of_files (record { given = g; ended = s.ended; answers = s.answers }) (asked.Seal offered)) (sym is.given_is)
+              (dues.Seal kind, is, offered_is),
         ) in
+        let one = seals_alone of_files 0 filled id count m n (subst (λ (cs : List Contents). Seals of_files 0 cs id count m n) whole does) in
         there (dues.Seal kind) is (answers.Sealed id)
         (sealed_stores is.session is.history is.has m n (here (dues.Seal kind) is) id kind is.settled is.due_is
-        (subst (λ (c : Contents). IsDueOf is.history.given (asked.Seal c)) whole due_of) (subst (λ (c : Contents). Seals of_files 0 c id m n) whole does))
-    seal_turn filled id (dues.Claim, is, asks) does = absurd asks
-    seal_turn filled id (dues.Nothing, is, asks) does = absurd asks
+        (subst (λ (cs : List Contents). IsDueOf is.history.given (asked.Seal cs)) whole due_of) one.0 one.1)
+    seal_turn offered id count (dues.Claim, is, asks) does = absurd asks
+    seal_turn offered id count (dues.Nothing, is, asks) does = absurd asks
 
     turn_stores : (step : Asked (List ℕ)) (answer : Done) (told : Answer) → IsDueStep of_files s step → answer_of (Ok answer) ≡ Some told
         → Does of_files 0 step answer m n → After told
     turn_stores (asked.Claim seg) done.Held told due is does = subst After (same_some answers.Held told is) (held_turn seg due does)
     turn_stores (asked.Claim seg) done.Absent told due is (keeps, lacks, others) = subst After (same_some answers.Absent told is) (absent_turn seg due (lacks (inl tt)) others)
-    turn_stores (asked.Seal filled) (done.Sealed id) told due is does = subst After (same_some (answers.Sealed id) told is) (seal_turn filled id due does)
+    turn_stores (asked.Seal offered) (done.Sealed id count) told due is does = subst After (same_some (answers.Sealed id) told is) (seal_turn offered id count due does)
     turn_stores (asked.Claim seg) answer told due is does = absurd does
-    turn_stores (asked.Seal filled) answer told due is does = absurd does
+    turn_stores (asked.Seal offered) answer told due is does = absurd does
     turn_stores step answer told (dues.Claim, by, asks) is does = absurd asks
     turn_stores step answer told (dues.Seal kind, by, asks) is does = absurd asks
     turn_stores step answer told (dues.Nothing, by, asks) is does = absurd asks
@@ -352,8 +359,8 @@ module _ (opened : Store) where
 
   module _ (s : Session) (m : F) (stores : Stores opened s m) where
     -- what is to be sealed is held by nothing, a piece at least
-    pub seal_lacks_piece : (filled : Contents) → IsDueStep of_files s (asked.Seal filled) → (more : List ℕ) → GoesOn more s → LacksPiece (s.given ++ more) m.store
-    seal_lacks_piece filled (dues.Seal kind, is, filled_is) more on =
+    pub seal_lacks_piece : (offered : List Contents) → IsDueStep of_files s (asked.Seal offered) → (more : List ℕ) → GoesOn more s → LacksPiece (s.given ++ more) m.store
+    seal_lacks_piece offered (dues.Seal kind, is, offered_is) more on =
         subst (λ (g : List ℕ). LacksPiece (g ++ more) m.store) is.given_is
         (by (open_of is.session kind).segments (seal_holds_some is.session kind (session_of is.session is.history is.has) is.due_is)
         (opens_are_pieces is.session is.history more is.has (λ end. on (sym is.ended_is ∙ end)) kind)
@@ -370,8 +377,8 @@ module _ (opened : Store) where
                 ap (newest 0 m.store.held) (sym (ap (λ (y : KindSegment). segment_key y.kind y.segment) piece.2 ∙ key_is piece.0)) ∙ none.0,
               ),
             )
-    seal_lacks_piece filled (dues.Claim, is, asks) more on = absurd asks
-    seal_lacks_piece filled (dues.Nothing, is, asks) more on = absurd asks
+    seal_lacks_piece offered (dues.Claim, is, asks) more on = absurd asks
+    seal_lacks_piece offered (dues.Nothing, is, asks) more on = absurd asks
 
     -- once nothing is due of all of the file each piece of it has a copy
     pub holds_file : s.ended ≡ true → NothingIsDue of_files s → HoldsFile s.given m.store
@@ -390,14 +397,15 @@ module _ (opened : Store) where
       (subst (HasPieceOf (is.history.given ++ more)) (sym (item_is (turn_node is.session) is.session.queue seg offered.is))
       (item_piece (is.history.given ++ more) (turn_node is.session) is.session.queue (claimed_has_turn is.session is.settled is.due_is)
       (turns_are_pieces is.session is.history more is.has (λ end. on (sym is.ended_is ∙ end)))))
-  due_asks s (asked.Seal filled) (dues.Seal kind, is, filled_is) more on =
-      subst (λ (c : Contents). AsksPieces (s.given ++ more) (asked.Seal c)) (sym (filled_is ∙ open_is is.session is.history is.has kind))
-      (subst (λ (g : List ℕ). AsksPieces (g ++ more) (asked.Seal (record { kind = kind; segments = (open_of is.session kind).segments }))) is.given_is
-      (opens_are_pieces is.session is.history more is.has (λ end. on (sym is.ended_is ∙ end)) kind))
+  due_asks s (asked.Seal offered) (dues.Seal kind, is, offered_is) more on =
+      subst (λ (cs : List Contents). AsksPieces (s.given ++ more) (asked.Seal cs))
+      (sym (offered_is ∙ ap (λ (c : Contents). c ∷ []) (open_is is.session is.history is.has kind)))
+      (subst (λ (g : List ℕ). AsksPieces (g ++ more) (asked.Seal (record { kind = kind; segments = (open_of is.session kind).segments } ∷ []))) is.given_is
+      (opens_are_pieces is.session is.history more is.has (λ end. on (sym is.ended_is ∙ end)) kind, tt))
   due_asks s (asked.Claim seg) (dues.Seal kind, is, asks) more on = absurd asks
   due_asks s (asked.Claim seg) (dues.Nothing, is, asks) more on = absurd asks
-  due_asks s (asked.Seal filled) (dues.Claim, is, asks) more on = absurd asks
-  due_asks s (asked.Seal filled) (dues.Nothing, is, asks) more on = absurd asks
+  due_asks s (asked.Seal offered) (dues.Claim, is, asks) more on = absurd asks
+  due_asks s (asked.Seal offered) (dues.Nothing, is, asks) more on = absurd asks
   due_asks s step (dues.Claim, is, asks) more on = absurd asks
   due_asks s step (dues.Seal kind, is, asks) more on = absurd asks
   due_asks s step (dues.Nothing, is, asks) more on = absurd asks

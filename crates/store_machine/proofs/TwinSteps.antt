@@ -1,5 +1,5 @@
 -- What the steps of a session leave pinned, and where one of them lacks a pin.
-use Rattle.store_machine.proofs.Prelude.{◌≡◌, ◌≢◌, ◌<◌, ◌∙◌, ℕ, true, [], ◌∷◌, ◌++◌, length, slice_set, Some, Result, Ok, Err, sym, ap, subst, Answer, PinMap, pin_of, KindSegment, segment_key, open_of, IsDueFor, Refusal, root_key, Asked, Done, ByState, Claims, Does, Legal, RefusesOn, Seals, AreTurns, IsDueStep, NothingIsDue, Session, answer_of, Machine, Part, RunState, Running, Stopped, Stepped, Writing, part_in, first_unkept, with_pins, Run, HasTwins, Values}
+use Rattle.store_machine.proofs.Prelude.{◌≡◌, ◌≢◌, ◌<◌, ◌∙◌, ℕ, true, [], ◌∷◌, ◌++◌, length, slice_set, Some, Result, Ok, Err, sym, ap, subst, Answer, PinMap, pin_of, KindSegment, segment_key, open_of, IsDueFor, Refusal, root_key, Asked, Done, ByState, Claims, Does, Legal, RefusesOn, Seals, AreTurns, IsDueStep, NothingIsDue, Session, answer_of, Machine, Part, RunState, Running, Stopped, Stepped, Writing, part_in, with_pins, Run, HasTwins, Values}
 use Rattle.std.proofs.Common.{List}
 use Rattle.std.specs.FinMap as finite
 use Rattle.actor_parts.specs.declared.step.Answer.TheVariants as answers
@@ -10,6 +10,8 @@ use Rattle.store_model.specs.Trees.{root_of}
 use Rattle.store_machine.specs.Asked as asked
 use Rattle.store_machine.specs.Done as done
 use Rattle.store_machine.specs.Legal.{IsKept}
+use Rattle.store_machine.specs.Offers.{first_unkept_in}
+use Rattle.store_machine.proofs.Added.{seals_alone, unkept_alone}
 use Rattle.store_machine.proofs.Pinned.{Pinned, absent_pinned, claim_lacks, held_pinned, root_lacks, same_told, seal_lacks, sealed_pinned, told_of}
 use Rattle.store_machine.proofs.Quiet.{told_ok}
 use Rattle.store_machine.proofs.Writers.{IsNoOpening, KeepsWriters, by_state, does_of, puts}
@@ -93,23 +95,22 @@ module _ {V R : Type 0} where
     absent_turned seg (dues.Seal kind, is, asks) same = absurd asks
     absent_turned seg (dues.Nothing, is, asks) same = absurd asks
 
-    sealed_turned : (filled : Contents) (id : ℕ) → IsDueStep v s (asked.Seal filled) → Seals v a filled id m n → Turned (answers.Sealed id)
-    sealed_turned filled id (dues.Seal kind, is, filled_is) does =
-        writes_now (dues.Seal kind) is does.may.pins _ (answers.Sealed id) does.may.writing (ap (λ (x : Machine V R). x.parts) does.others)
-        (λ same. subst (λ (c : Contents). Pinned (record (told_of is.session is.history) { answers = is.history.answers ++ answers.Sealed id ∷ [] })
-        (with_pins c.kind c.segments does.may.pins)) (sym filled_is)
-        (subst (λ (pins : PinMap). Pinned (record (told_of is.session is.history) { answers = is.history.answers ++ answers.Sealed id ∷ [] })
+    sealed_turned : (offered : List Contents) (id count : ℕ) → IsDueStep v s (asked.Seal offered) → Seals v a offered id count m n → Turned (answers.Sealed id)
+    sealed_turned offered id count (dues.Seal kind, is, offered_is) does =
+        let one = (seals_alone v a (open_of is.session kind) id count m n (subst (λ (cs : List Contents). Seals v a cs id count m n) offered_is does)).0 in
+        writes_now (dues.Seal kind) is one.pins _ (answers.Sealed id) one.writing (ap (λ (x : Machine V R). x.parts) one.others)
+        (λ same. subst (λ (pins : PinMap). Pinned (record (told_of is.session is.history) { answers = is.history.answers ++ answers.Sealed id ∷ [] })
         (with_pins (open_of is.session kind).kind (open_of is.session kind).segments pins)) same
-        (sealed_pinned is.session is.history is.has w.pins (here (dues.Seal kind) is) id kind is.settled (kind, is.due_is) is.due_is)))
-    sealed_turned filled id (dues.Claim, is, asks) does = absurd asks
-    sealed_turned filled id (dues.Nothing, is, asks) does = absurd asks
+        (sealed_pinned is.session is.history is.has w.pins (here (dues.Seal kind) is) id kind is.settled (kind, is.due_is) is.due_is))
+    sealed_turned offered id count (dues.Claim, is, asks) does = absurd asks
+    sealed_turned offered id count (dues.Nothing, is, asks) does = absurd asks
 
     pub turned : (step : Asked V) (answer : Done) (told : Answer) → IsDueStep v s step → answer_of (Ok answer) ≡ Some told → Does v a step answer m n → Turned told
     turned (asked.Claim seg) done.Held told due is does = subst Turned (same_some answers.Held told is) (held_turned seg due does)
     turned (asked.Claim seg) done.Absent told due is (keeps, lacks, others) = subst Turned (same_some answers.Absent told is) (absent_turned seg due others)
-    turned (asked.Seal filled) (done.Sealed id) told due is does = subst Turned (same_some (answers.Sealed id) told is) (sealed_turned filled id due does)
+    turned (asked.Seal offered) (done.Sealed id count) told due is does = subst Turned (same_some (answers.Sealed id) told is) (sealed_turned offered id count due does)
     turned (asked.Claim seg) answer told due is does = absurd does
-    turned (asked.Seal filled) answer told due is does = absurd does
+    turned (asked.Seal offered) answer told due is does = absurd does
     turned step answer told (dues.Claim, by, asks) is does = absurd asks
     turned step answer told (dues.Seal kind, by, asks) is does = absurd asks
     turned step answer told (dues.Nothing, by, asks) is does = absurd asks
@@ -127,14 +128,14 @@ module _ {V R : Type 0} where
     turn_lacks (asked.Claim seg) key (dues.Claim, is, offered) ((pins, was, lacks), others) =
         twins_of dues.Claim is key
         (claim_lacks is.session is.history is.has pins (pins_are dues.Claim is key pins was) is.settled is.due_is seg offered key lacks)
-    turn_lacks (asked.Seal filled) key (dues.Seal kind, is, filled_is) ((pins, was, lacks), others) =
+    turn_lacks (asked.Seal offered) key (dues.Seal kind, is, offered_is) ((pins, was, lacks), others) =
         twins_of (dues.Seal kind) is key
         (seal_lacks is.session is.history is.has pins (pins_are (dues.Seal kind) is key pins was) kind key
-        (subst (λ (c : Contents). first_unkept c.kind c.segments pins ≡ Some key) filled_is lacks))
+        (sym (unkept_alone (open_of is.session kind) pins) ∙ subst (λ (cs : List Contents). first_unkept_in cs pins ≡ Some key) offered_is lacks))
     turn_lacks (asked.Claim seg) key (dues.Seal kind, is, asks) refuses = absurd asks
     turn_lacks (asked.Claim seg) key (dues.Nothing, is, asks) refuses = absurd asks
-    turn_lacks (asked.Seal filled) key (dues.Claim, is, asks) refuses = absurd asks
-    turn_lacks (asked.Seal filled) key (dues.Nothing, is, asks) refuses = absurd asks
+    turn_lacks (asked.Seal offered) key (dues.Claim, is, asks) refuses = absurd asks
+    turn_lacks (asked.Seal offered) key (dues.Nothing, is, asks) refuses = absurd asks
     turn_lacks step key (dues.Claim, is, asks) refuses = absurd asks
     turn_lacks step key (dues.Seal kind, is, asks) refuses = absurd asks
     turn_lacks step key (dues.Nothing, is, asks) refuses = absurd asks

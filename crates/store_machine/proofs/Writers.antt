@@ -92,16 +92,16 @@ module _ {V R : Type 0} where
     claim_apart a seg (refusals.Corrupt slot offset count want got) m n (keeps, (unknown, others)) = still a m n others
     claim_apart a seg refusal m n refuses = absurd refuses
 
-    seal_apart : (a : ℕ) (filled : Contents) (refusal : Refusal) (m n : Machine V R) → RefusesSeal v a filled refusal m n → Apart a m n
-    seal_apart a filled refusals.Memory m n others = still a m n others
-    seal_apart a filled (refusals.Unpinned key) m n (is, others) = still a m n others
-    seal_apart a filled (refusals.Full free) m n (keeps, is, few, others) = still a m n others
-    seal_apart a filled refusals.Numbers m n (slot, none, others) = still a m n others
-    seal_apart a filled refusals.DiskRead m n (slot, others) = still a m n others
-    seal_apart a filled (refusals.Clash key at) m n (slot, known, others) = still a m n others
-    seal_apart a filled (refusals.Corrupt at offset count want got) m n (slot, (unknown, others)) = still a m n others
-    seal_apart a filled refusals.DiskWrite m n (slot, fits, others) = stopped a None _ m n others
-    seal_apart a filled refusal m n refuses = absurd refuses
+    seal_apart : (a : ℕ) (offered : List Contents) (refusal : Refusal) (m n : Machine V R) → RefusesSeal v a offered refusal m n → Apart a m n
+    seal_apart a offered refusals.Memory m n others = still a m n others
+    seal_apart a offered (refusals.Unpinned key) m n (is, others) = still a m n others
+    seal_apart a offered (refusals.Full free) m n (keeps, is, few, others) = still a m n others
+    seal_apart a offered refusals.Numbers m n (slot, none, others) = still a m n others
+    seal_apart a offered refusals.DiskRead m n (slot, others) = still a m n others
+    seal_apart a offered (refusals.Clash key at) m n (slot, known, others) = still a m n others
+    seal_apart a offered (refusals.Corrupt at offset count want got) m n (slot, (unknown, others)) = still a m n others
+    seal_apart a offered refusals.DiskWrite m n (slot, fits, others) = stopped a None _ m n others
+    seal_apart a offered refusal m n refuses = absurd refuses
 
     commit_apart : (a : ℕ) (name : List ℕ) (value : V) (refusal : Refusal) (m n : Machine V R) → RefusesCommit v a name value refusal m n → Apart a m n
     commit_apart a name value refusals.Memory m n others = still a m n others
@@ -136,7 +136,7 @@ module _ {V R : Type 0} where
 
     on_apart : (a : ℕ) (step : Asked V) (refusal : Refusal) (m n : Machine V R) → RefusesOn v a step refusal m n → Apart a m n
     on_apart a (asked.Claim seg) refusal m n refuses = claim_apart a seg refusal m n refuses
-    on_apart a (asked.Seal filled) refusal m n refuses = seal_apart a filled refusal m n refuses
+    on_apart a (asked.Seal offered) refusal m n refuses = seal_apart a offered refusal m n refuses
     on_apart a (asked.Commit name value) refusal m n refuses = commit_apart a name value refusal m n refuses
     on_apart a (asked.OpenRead name) refusals.Memory m n others = still a m n others
     on_apart a (asked.OpenRead name) refusals.BadName m n (bad, others) = still a m n others
@@ -161,7 +161,7 @@ module _ {V R : Type 0} where
 
     abbrev pub IsOther : Asked V → Type 0
     IsOther (asked.Claim seg) = ⊥
-    IsOther (asked.Seal filled) = ⊥
+    IsOther (asked.Seal offered) = ⊥
     IsOther (asked.Commit name value) = ⊥
     IsOther asked.Abort = ⊥
     IsOther asked.Reopen = ⊥

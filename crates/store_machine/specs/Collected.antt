@@ -1,5 +1,5 @@
 -- What a collection has done at its end, whatever steps came between (docs/MODEL.md, 'Collection').
-use Rattle.std.specs.Prelude.{◌≡◌, ◌≢◌, ◌⊎◌, ◌↔◌, ℕ, ◌≤◌, List, [], ◌∷◌, length, slice_get, Contains, Some, Ok}
+use Rattle.std.specs.Prelude.{◌≡◌, ◌≢◌, ◌⊎◌, ◌↔◌, ℕ, ◌+◌, ◌≤◌, List, [], ◌∷◌, length, slice_get, take, Contains, Some, Ok}
 use Rattle.container_meta.specs.Segments.{Contents}
 use Rattle.container_meta.specs.Spelling.{HeaderValue, header_of}
 use Rattle.gc_select.specs.Selecting.{selected}
@@ -12,6 +12,7 @@ use Rattle.store_machine.specs.Collecting.{keys_written, sources_in}
 use Rattle.store_machine.specs.Done as done
 use Rattle.store_machine.specs.Legal.{Legal}
 use Rattle.store_machine.specs.Machine.{Collection, Machine, Stepped, Sweep, Sweeping}
+use Rattle.store_machine.specs.Offers.{IsHeaderOfOne}
 use Rattle.store_machine.specs.Runs.{Run}
 use Rattle.store_machine.specs.Values.{Values}
 
@@ -35,13 +36,14 @@ IsWrittenBy [] h = ⊥
 IsWrittenBy (FlushContainer id kind segments ∷ more) h = (h ≡ header_of id kind segments) ⊎ IsWrittenBy more h
 IsWrittenBy (change ∷ more) h = IsWrittenBy more h
 
--- a container that an actor sealed by one of these steps
+-- a container that an actor sealed by this step
 pub record IsSealOf {V : Type 0} (s : Stepped V) (h : HeaderValue) : Type 0 where
-  pub filled : Contents
-  pub id : ℕ
-  pub asked_is : s.asked ≡ asked.Seal filled
-  pub answer_is : s.answer ≡ Ok (done.Sealed id)
-  pub header_is : h ≡ header_of id filled.kind filled.segments
+  pub offered : List Contents
+  pub last : ℕ
+  pub count : ℕ
+  pub asked_is : s.asked ≡ asked.Seal offered
+  pub answer_is : s.answer ≡ Ok (done.Sealed (last + count) count)
+  pub header_is : IsHeaderOfOne last (take count offered) h
 
 abbrev pub IsSealedBy : {V : Type 0} → List (Stepped V) → HeaderValue → Type 0
 IsSealedBy [] h = ⊥

@@ -1,5 +1,5 @@
 -- Commands as lines of a script: which line comes after which reply, and what is printed (docs/FORMAT.md, 'Commands').
-use Rattle.std.specs.Prelude.{◌≡◌, ◌⊎◌, ◌==◌, if◌then◌else◌, ℕ, Bool, true, false, List as ListOf, [], ◌∷◌, ◌++◌, replicate, take, Option, Some, None}
+use Rattle.std.specs.Prelude.{◌≡◌, ◌⊎◌, ◌==◌, if◌then◌else◌, ℕ, Bool, true, false, List as ListOf, [], ◌∷◌, ◌++◌, replicate, Option, Some, None}
 use Rattle.actor_parts.specs.declared.actor.TheConstants.{ACTORS}
 use Rattle.std.proofs.Common.{ap, subst, sym}
 use Rattle.reply_text.specs.Text.{deleted_line, listing_text, stored_line}
@@ -9,7 +9,6 @@ use Rattle.script_lines.specs.Grammar as lines
 use Rattle.script_lines.specs.ReplyText.{reply_line}
 use Rattle.script_lines.specs.ReplyValue.{ReplyValue}
 use Rattle.script_lines.specs.ReplyValue as replies
-use Rattle.store_model.specs.Standing.{IsSegmentOf}
 use Rattle.store_model.specs.Trees.{root_of}
 use Rattle.store_machine.specs.Lines.{Desk, Line}
 use Rattle.store_machine.specs.Machine.{Machine, Stepped}

@@ -19,7 +19,7 @@ use Rattle.store_machine.specs.Values.{of_files, of_roots}
 abbrev pub asked_of : Asked (List ℕ) → Asked Root
 asked_of asked.Begin = asked.Begin
 asked_of (asked.Claim seg) = asked.Claim seg
-asked_of (asked.Seal filled) = asked.Seal filled
+asked_of (asked.Seal offered) = asked.Seal offered
 asked_of (asked.Commit name file) = asked.Commit name (root_of file)
 asked_of asked.Abort = asked.Abort
 asked_of (asked.OpenRead name) = asked.OpenRead name

@@ -1,12 +1,11 @@
 -- What the lines of an `ingest` come to, in a run of the machine of files: what the plain map makes of it.
-use Rattle.std.specs.Prelude.{◌≡◌, ◌⊎◌, ◌<◌, ◌≤◌, ◌-◌, ◌^◌, ℕ, ◌∷◌, suc, Bool, true, List, [], ◌++◌, length, is_some, slice_get, Some, None, Err}
+use Rattle.std.specs.Prelude.{◌≡◌, ◌⊎◌, ◌<◌, ◌≤◌, ◌-◌, ◌^◌, ℕ, ◌∷◌, Bool, true, List, [], ◌++◌, length, is_some, slice_get, Some, None, Err}
 use Rattle.std.specs.FinMap as finite
 use Rattle.std.specs.List.{AllByRecursion}
 use Rattle.actor_parts.specs.declared.step.Answer.{Answer}
 use Rattle.actor_parts.specs.PinMap.{PinMap}
 use Rattle.actor_parts.specs.Segments.{first_unpinned}
-use Rattle.container_meta.specs.declared.kind.Kind.{Kind}
-use Rattle.container_meta.specs.Segments.{KindSegment, Segment}
+use Rattle.container_meta.specs.Segments.{Contents, KindSegment}
 use Rattle.disk_format.specs.Cells.{IsName}
 use Rattle.disk_format.specs.Cells.Change.{Put}
 use Rattle.disk_format.specs.declared.numbers.TheConstants.{LAST_ID, MOST_FILE, MOST_NAMES, RESERVE}
@@ -19,7 +18,7 @@ use Rattle.script_lines.specs.Grammar as lines
 use Rattle.store_model.specs.Image.{Store}
 use Rattle.store_model.specs.Refusals.{root_key}
 use Rattle.store_model.specs.Slots.{free_slots, last_id}
-use Rattle.store_model.specs.Steps.{SealContainer, StoreChange, with_change, with_sealed}
+use Rattle.store_model.specs.Steps.{SealContainer, StoreChange, with_change}
 use Rattle.store_model.specs.Trees.{root_of}
 use Rattle.store_machine.specs.Asked.{Asked}
 use Rattle.store_machine.specs.Asked as asked
@@ -30,6 +29,7 @@ use Rattle.store_machine.specs.Legal.{broken_by, HasRoom, IsKept, LacksNumbers, 
 use Rattle.store_machine.specs.Needs.{IsClash}
 use Rattle.store_machine.specs.Lines.{Desk, IsDueStep, step_of}
 use Rattle.store_machine.specs.Machine.{Found, Running, Stepped, Stopped, Writing, part_in}
+use Rattle.store_machine.specs.Offers.{AnyByRecursion, sealed_in, stores_with_some}
 use Rattle.store_machine.specs.Opening.{MayBeFound}
 use Rattle.store_machine.specs.Storing.{AddsOnce, AsksPieces, HoldsFile, LacksPiece, MayCome, OfWhole}
 use Rattle.store_machine.specs.Twins.{PiecesAreTwins}
@@ -53,10 +53,11 @@ abbrev pub IsDueOf : List ℕ → Asked (List ℕ) → Type 0
 IsDueOf given step =
     (ended : Bool) × (answers : List Answer) × IsDueStep of_files (record { given = given; ended = ended; answers = answers }) step
 
--- the segment that it claims, or one of those that it seals
+-- the segment that it claims, or one of those that it offers to seal
 abbrev pub HasSegment : Asked (List ℕ) → KindSegment → Type 0
 HasSegment (asked.Claim seg) one = one ≡ seg
-HasSegment (asked.Seal filled) one = (one.kind ≡ filled.kind) × ((i : ℕ) × (slice_get filled.segments i ≡ Some one.segment))
+HasSegment (asked.Seal offered) one =
+    AnyByRecursion (λ c. (one.kind ≡ c.kind) × ((i : ℕ) × (slice_get c.segments i ≡ Some one.segment))) offered
 HasSegment step one = ⊥
 
 -- a segment of the file, or a node over some, whose turn came
@@ -100,17 +101,21 @@ IngestRefusal name given now n line refusal = ⊥
 
 -- ---- the store
 
--- a container that was filled with segments of what was given by then, or with nodes over some, as their turn came
+-- containers that were filled with segments of what was given by then, or with nodes over some, as their turn came
+abbrev pub AreOfferedFor : List ℕ → List Contents → Type 0
+AreOfferedFor given offered = (part rest : List ℕ) × (given ≡ part ++ rest) × IsDueOf part (asked.Seal offered)
+
+-- one of such
 abbrev pub IsSealFor : List ℕ → StoreChange → Type 0
-IsSealFor given (SealContainer id kind segments) =
-    (part rest : List ℕ) × (given ≡ part ++ rest) × IsDueOf part (asked.Seal (record { kind = kind; segments = segments }))
+IsSealFor given (SealContainer id kind segments) = (offered : List Contents) × AreOfferedFor given offered
+    × AnyByRecursion (λ c. (kind ≡ c.kind) × (segments ≡ c.segments)) offered
 IsSealFor given change = ⊥
 
--- A write failed: of such a container, which may be there; or of the name's record, so that it may be there, or a part of the checkpoint
+-- A write failed: of such containers, some of which may be there; or of the name's record, so that it may be there, or a part of the checkpoint
 -- before it.
 abbrev pub IsBroken : (name given : List ℕ) → Found (List ℕ) → FileMachine → Type 0
-IsBroken name given now n = ((kind : Kind) × (segments : List Segment) × IsSealFor given (SealContainer (suc n.last_id) kind segments)
-    × (n.state ≡ Stopped None (with_sealed (suc n.last_id) kind segments n.store ∷ [])))
+IsBroken name given now n = ((offered : List Contents) × AreOfferedFor given offered
+    × (n.state ≡ Stopped None (stores_with_some n.last_id (sealed_in offered n) n.store)))
     ⊎ (n.state ≡ Stopped (Some (with_name of_files name given now)) (broken_by of_files name (Put (root_of given)) n.store))
 
 -- Once the store was opened such containers were added, each where it could be, with pieces of the file, however it goes on, that no

@@ -1,12 +1,11 @@
 -- What a step may answer, and what it leaves: one relation, for any values (docs/MODEL.md, 'The machine').
-use Rattle.std.specs.Prelude.{◌≡◌, ◌≢◌, ◌⊎◌, ℕ, suc, ◌-◌, ◌^◌, ◌<◌, ◌≤◌, true, false, List, [], ◌∷◌, length, map, is_some, slice_get, take, Contains, Option, Some, None, Result, Ok, Err}
+use Rattle.std.specs.Prelude.{◌≡◌, ◌≢◌, ◌⊎◌, ℕ, suc, ◌+◌, ◌-◌, ◌^◌, ◌<◌, ◌≤◌, true, false, List, [], ◌∷◌, length, map, is_some, slice_get, take, Contains, Option, Some, None, Result, Ok, Err}
 use Rattle.std.specs.FinMap as finite
 use Rattle.std.specs.List.{AllByRecursion}
 use Rattle.sha2.specs.Sha256.{sha256}
 use Rattle.actor_parts.specs.PinMap.{PinMap, has_pin}
 use Rattle.actor_parts.specs.Segments.{first_unpinned, pin_of}
-use Rattle.container_meta.specs.declared.kind.Kind.{Kind}
-use Rattle.container_meta.specs.Segments.{Contents, KindSegment, Segment, segment_key}
+use Rattle.container_meta.specs.Segments.{Contents, KindSegment, segment_key}
 use Rattle.disk_format.specs.Cells.{Change, IsName, Root}
 use Rattle.disk_format.specs.Cells.Change.{Put, Delete as Gone}
 use Rattle.disk_format.specs.Layout.{half_cells}
@@ -22,15 +21,16 @@ use Rattle.refusals.specs.declared.refusal.Refusal.TheVariants.{Memory, NoFile, 
 use Rattle.store_model.specs.Image.{Store}
 use Rattle.store_model.specs.Indexing.{bytes_in_slots, entries_in}
 use Rattle.store_model.specs.Refusals.{root_key}
-use Rattle.store_model.specs.Slots.{free_slots, newest}
-use Rattle.store_model.specs.Steps.{CanRise, CanSeal, with_change, with_checkpoint, with_other, with_sealed}
+use Rattle.store_model.specs.Slots.{free_slots}
+use Rattle.store_model.specs.Steps.{CanRise, with_change, with_checkpoint, with_other}
 use Rattle.store_machine.specs.Collecting.{Begins, Ends, GoesOn, IsCollecting, MayBreak}
 use Rattle.store_machine.specs.Asked.{Asked}
 use Rattle.store_machine.specs.Asked as asked
 use Rattle.store_machine.specs.Done.{Done}
 use Rattle.store_machine.specs.Done as done
 use Rattle.store_machine.specs.Machine.{Collection, Found, Machine, Idle, Writing, Reading, RunState, Running, Stopped, Stepped, keeping, kind_of, one_more, part_in, put_at, stopped}
-use Rattle.store_machine.specs.Needs.{HasCopy, HasLength, HoldsKey, IsClash, first_unkept, forgotten_beside, keys_of, with_pins}
+use Rattle.store_machine.specs.Needs.{Fits, HasCopy, HasLength, HoldsKey, IsClash, IsLacked}
+use Rattle.store_machine.specs.Offers.{AddsContainers, IsOffer, first_unkept_in, sealed_in, sealed_of, stores_with_some}
 use Rattle.store_machine.specs.Opening.{Reopens}
 use Rattle.store_machine.specs.Values.{Values}
 
@@ -39,24 +39,13 @@ use Rattle.store_machine.specs.Values.{Values}
 abbrev pub taken_by : {V : Type 0} → Asked V → Option PartKind
 taken_by asked.Begin = Some kinds.Idle
 taken_by (asked.Claim seg) = Some kinds.Writing
-taken_by (asked.Seal filled) = Some kinds.Writing
+taken_by (asked.Seal offered) = Some kinds.Writing
 taken_by (asked.Commit name value) = Some kinds.Writing
 taken_by asked.Abort = Some kinds.Writing
 taken_by (asked.OpenRead name) = Some kinds.Idle
 taken_by asked.ReadNext = Some kinds.Reading
 taken_by asked.EndRead = Some kinds.Reading
 taken_by step = None
-
--- ---- segments that are offered
-
--- no container has the key, or it was forgotten: the index lacks it
-abbrev pub IsLacked : Store → (forgotten : List (List ℕ)) → List ℕ → Type 0
-IsLacked store forgotten key = (newest 0 store.held key ≡ None) ⊎ Contains forgotten key
-
--- the copy that the index has of a segment's key, if there is one, has its level and its length
-abbrev pub Fits : Store → (forgotten : List (List ℕ)) → Kind → Segment → Type 0
-Fits store forgotten kind s =
-    IsLacked store forgotten (segment_key kind s) ⊎ HasCopy store (record { kind = kind; segment = s })
 
 -- ---- names and numbers
 
@@ -103,31 +92,32 @@ module _ {V R : Type 0} (v : Values V R) where
 
   -- ---- a step that is done
 
-  -- the actor writes, and keeps each child of the segment
-  pub record Keeps (actor : ℕ) (kind : Kind) (unkept : PinMap → Option (List ℕ)) (m : Machine V R) : Type 0 where
+  -- the actor writes, and keeps each child of what it asks for
+  pub record Keeps (actor : ℕ) (unkept : PinMap → Option (List ℕ)) (m : Machine V R) : Type 0 where
     pub pins : PinMap
     pub writing : part_in m actor ≡ Writing pins
     pub children : unkept pins ≡ None
 
   pub record Claims (actor : ℕ) (seg : KindSegment) (m n : Machine V R) : Type 0 where
-    pub may : Keeps actor seg.kind (first_unpinned seg) m
+    pub may : Keeps actor (first_unpinned seg) m
     pub held : IsIndexed m → HasLength m.store seg × ¬ (Contains m.forgotten (segment_key seg.kind seg.segment))
     pub same : v.Known → HasCopy m.store seg
     pub others : n ≡ record (put_at m actor (Writing (finite.insert may.pins (segment_key seg.kind seg.segment) (pin_of seg)))) {
       collection = keeping (segment_key seg.kind seg.segment ∷ []) m.collection;
     }
 
-  pub record Seals (actor : ℕ) (filled : Contents) (id : ℕ) (m n : Machine V R) : Type 0 where
-    pub may : Keeps actor filled.kind (first_unkept filled.kind filled.segments) m
-    pub fits : v.Known → AllByRecursion (Fits m.store m.forgotten filled.kind) filled.segments
-    pub id_is : id ≡ suc m.last_id
-    pub can : CanSeal id filled.kind filled.segments m.store
-    pub others : n ≡ record (put_at m actor (Writing (with_pins filled.kind filled.segments may.pins))) {
-      store = with_sealed id filled.kind filled.segments m.store;
-      last_id = id;
-      forgotten = forgotten_beside (keys_of filled.kind filled.segments) m.forgotten;
-      collection = keeping (keys_of filled.kind filled.segments) m.collection;
-    }
+  -- each segment of these containers fits what was held before any of them was put
+  abbrev pub AllFit : List Contents → Machine V R → Type 0
+  AllFit cs m = AllByRecursion (λ c. AllByRecursion (Fits m.store m.forgotten c.kind) c.segments) cs
+
+  pub record Seals (actor : ℕ) (offered : List Contents) (id count : ℕ) (m n : Machine V R) : Type 0 where
+    pub offer : IsOffer offered
+    pub may : Keeps actor (first_unkept_in offered) m
+    pub count_is : count ≡ sealed_of (length offered) (free_slots m.store.held) m.last_id
+    pub some : 1 ≤ count
+    pub fits : v.Known → AllFit (take count offered) m
+    pub id_is : id ≡ m.last_id + count
+    pub adds : AddsContainers actor (take count offered) m n
 
   -- A name may have the value that an actor wrote.
   pub record MayCommit (actor : ℕ) (name : List ℕ) (value : V) (m : Machine V R) : Type 0 where
@@ -184,8 +174,8 @@ module _ {V R : Type 0} (v : Values V R) where
   Does a asked.Begin done.Begun m n = (part_in m a ≡ Idle) × (n ≡ put_at m a (Writing finite.empty))
   Does a (asked.Claim seg) done.Held m n = Claims a seg m n
   Does a (asked.Claim seg) done.Absent m n =
-      Keeps a seg.kind (first_unpinned seg) m × (IsIndexed m → IsLacked m.store m.forgotten (segment_key seg.kind seg.segment)) × (n ≡ m)
-  Does a (asked.Seal filled) (done.Sealed id) m n = Seals a filled id m n
+      Keeps a (first_unpinned seg) m × (IsIndexed m → IsLacked m.store m.forgotten (segment_key seg.kind seg.segment)) × (n ≡ m)
+  Does a (asked.Seal offered) (done.Sealed id count) m n = Seals a offered id count m n
   Does a (asked.Commit name value) (done.Committed sequence) m n = Commits a name value sequence m n
   Does a asked.Abort done.Aborted m n = GivesUp a kinds.Writing m n
   Does a (asked.OpenRead name) (done.Opened count) m n = OpensValue a name count m n
@@ -219,7 +209,7 @@ module _ {V R : Type 0} (v : Values V R) where
   IsUnkept actor unkept key m = (pins : PinMap) × (part_in m actor ≡ Writing pins) × (unkept pins ≡ Some key)
 
   abbrev pub KeepsChildren : ℕ → KindSegment → Machine V R → Type 0
-  KeepsChildren a seg m = Keeps a seg.kind (first_unpinned seg) m
+  KeepsChildren a seg m = Keeps a (first_unpinned seg) m
 
   abbrev pub RefusesClaim : ℕ → KindSegment → Refusal → Machine V R → Machine V R → Type 0
   RefusesClaim a seg (Unpinned key) m n = IsUnkept a (first_unpinned seg) key m × (n ≡ m)
@@ -229,31 +219,37 @@ module _ {V R : Type 0} (v : Values V R) where
   RefusesClaim a seg (Corrupt slot offset count want got) m n = KeepsChildren a seg m × OnlyUnknown m n
   RefusesClaim a seg refusal m n = ⊥
 
-  abbrev pub HasSlot : ℕ → Contents → Machine V R → Type 0
-  HasSlot a filled m = Keeps a filled.kind (first_unkept filled.kind filled.segments) m × (RESERVE < free_slots m.store.held)
+  abbrev pub HasSlot : ℕ → List Contents → Machine V R → Type 0
+  HasSlot a offered m = Keeps a (first_unkept_in offered) m × (RESERVE < free_slots m.store.held)
 
-  abbrev pub HasSlotAndId : ℕ → Contents → Machine V R → Type 0
-  HasSlotAndId a filled m = HasSlot a filled m × (m.last_id < LAST_ID)
+  abbrev pub HasSlotAndId : ℕ → List Contents → Machine V R → Type 0
+  HasSlotAndId a offered m = HasSlot a offered m × (m.last_id < LAST_ID)
 
   -- the first of the segments that does not fit what is held is another node of its digest
-  abbrev pub IsFirstClash : Contents → List ℕ → Difference → Machine V R → Type 0
-  IsFirstClash filled key at m = (i : ℕ) × (x : _) × (slice_get filled.segments i ≡ Some x)
+  abbrev pub IsClashIn : Contents → List ℕ → Difference → Machine V R → Type 0
+  IsClashIn filled key at m = (i : ℕ) × (x : _) × (slice_get filled.segments i ≡ Some x)
       × AllByRecursion (Fits m.store m.forgotten filled.kind) (take i filled.segments)
       × IsClash m.store m.forgotten (record { kind = filled.kind; segment = x }) key at
 
-  abbrev pub RefusesSeal : ℕ → Contents → Refusal → Machine V R → Machine V R → Type 0
-  RefusesSeal a filled Memory m n = n ≡ m
-  RefusesSeal a filled (Unpinned key) m n = IsUnkept a (first_unkept filled.kind filled.segments) key m × (n ≡ m)
-  RefusesSeal a filled (Full free) m n =
-      Keeps a filled.kind (first_unkept filled.kind filled.segments) m × (free ≡ free_slots m.store.held) × (free ≤ RESERVE) × (n ≡ m)
-  RefusesSeal a filled Numbers m n = HasSlot a filled m × (LAST_ID ≤ m.last_id) × (n ≡ m)
-  RefusesSeal a filled DiskRead m n = HasSlotAndId a filled m × (n ≡ m)
-  RefusesSeal a filled (Clash key at) m n = HasSlotAndId a filled m × (v.Known → IsFirstClash filled key at m) × (n ≡ m)
-  RefusesSeal a filled (Corrupt slot offset count want got) m n = HasSlotAndId a filled m × OnlyUnknown m n
-  RefusesSeal a filled DiskWrite m n = HasSlotAndId a filled m
-      × (v.Known → AllByRecursion (Fits m.store m.forgotten filled.kind) filled.segments)
-      × Stops None (with_sealed (suc m.last_id) filled.kind filled.segments m.store ∷ []) m n
-  RefusesSeal a filled refusal m n = ⊥
+  -- container by container
+  abbrev pub IsFirstClash : List Contents → List ℕ → Difference → Machine V R → Type 0
+  IsFirstClash [] key at m = ⊥
+  IsFirstClash (c ∷ cs) key at m = IsClashIn c key at m
+      ⊎ (AllByRecursion (Fits m.store m.forgotten c.kind) c.segments × IsFirstClash cs key at m)
+
+  abbrev pub RefusesSeal : ℕ → List Contents → Refusal → Machine V R → Machine V R → Type 0
+  RefusesSeal a offered Memory m n = n ≡ m
+  RefusesSeal a offered (Unpinned key) m n = IsUnkept a (first_unkept_in offered) key m × (n ≡ m)
+  RefusesSeal a offered (Full free) m n =
+      Keeps a (first_unkept_in offered) m × (free ≡ free_slots m.store.held) × (free ≤ RESERVE) × (n ≡ m)
+  RefusesSeal a offered Numbers m n = HasSlot a offered m × (LAST_ID ≤ m.last_id) × (n ≡ m)
+  RefusesSeal a offered DiskRead m n = HasSlotAndId a offered m × (n ≡ m)
+  RefusesSeal a offered (Clash key at) m n =
+      HasSlotAndId a offered m × (v.Known → IsFirstClash (sealed_in offered m) key at m) × (n ≡ m)
+  RefusesSeal a offered (Corrupt slot offset count want got) m n = HasSlotAndId a offered m × OnlyUnknown m n
+  RefusesSeal a offered DiskWrite m n = HasSlotAndId a offered m × (v.Known → AllFit (sealed_in offered m) m)
+      × Stops None (stores_with_some m.last_id (sealed_in offered m) m.store) m n
+  RefusesSeal a offered refusal m n = ⊥
 
   abbrev pub RefusesCommit : ℕ → List ℕ → V → Refusal → Machine V R → Machine V R → Type 0
   RefusesCommit a name value Memory m n = n ≡ m
@@ -302,7 +298,7 @@ module _ {V R : Type 0} (v : Values V R) where
   -- faults.
   abbrev pub RefusesOn : ℕ → Asked V → Refusal → Machine V R → Machine V R → Type 0
   RefusesOn a (asked.Claim seg) refusal m n = RefusesClaim a seg refusal m n
-  RefusesOn a (asked.Seal filled) refusal m n = RefusesSeal a filled refusal m n
+  RefusesOn a (asked.Seal offered) refusal m n = RefusesSeal a offered refusal m n
   RefusesOn a (asked.Commit name value) refusal m n = RefusesCommit a name value refusal m n
   RefusesOn a (asked.OpenRead name) Memory m n = n ≡ m
   RefusesOn a (asked.OpenRead name) BadName m n = ¬ (IsName name) × (n ≡ m)

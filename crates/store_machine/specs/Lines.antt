@@ -55,7 +55,7 @@ abbrev pub reply_of : ℕ → Result Done Refusal → ReplyValue
 reply_of a (Ok done.Begun) = replies.Begun a
 reply_of a (Ok done.Held) = replies.Turn a turns.Held
 reply_of a (Ok done.Absent) = replies.Turn a turns.Absent
-reply_of a (Ok (done.Sealed id)) = replies.Turn a (turns.Sealed id)
+reply_of a (Ok (done.Sealed id count)) = replies.Turn a (turns.Sealed id)
 reply_of a (Ok (done.Committed sequence)) = replies.Committed a sequence
 reply_of a (Ok done.Aborted) = replies.Aborted a
 reply_of a (Ok (done.Opened count)) = replies.Reading a count
@@ -76,7 +76,7 @@ reply_of a (Err refusal) = replies.Refused refusal
 abbrev pub answer_of : Result Done Refusal → Option Answer
 answer_of (Ok done.Held) = Some answers.Held
 answer_of (Ok done.Absent) = Some answers.Absent
-answer_of (Ok (done.Sealed id)) = Some (answers.Sealed id)
+answer_of (Ok (done.Sealed id count)) = Some (answers.Sealed id)
 answer_of told = None
 
 -- what it was, where the line was refused
@@ -128,10 +128,10 @@ module _ {V R : Type 0} (v : Values V R) where
 
   -- ---- turns
 
-  -- a step is due of a session: a claim of what it offers, or a seal of what it has filled
+  -- a step is due of a session: a claim of what it offers, or a seal of the one container that it has filled
   abbrev pub Asks : Due → SessionState → Asked V → Type 0
   Asks dues.Claim s (asked.Claim seg) = IsOffered s seg
-  Asks (dues.Seal kind) s (asked.Seal filled) = filled ≡ open_of s kind
+  Asks (dues.Seal kind) s (asked.Seal offered) = offered ≡ open_of s kind ∷ []
   Asks due s step = ⊥
 
   abbrev pub IsDueStep : Session → Asked V → Type 0

@@ -70,6 +70,15 @@ HoldsKey store key = (copy : Copy) × (newest 0 store.held key ≡ Some copy)
 abbrev pub IndexHas : Store → (forgotten : List (List ℕ)) → List ℕ → Place → Type 0
 IndexHas store forgotten key place = (option_map (λ c. c.place) (newest 0 store.held key) ≡ Some place) × ¬ (Contains forgotten key)
 
+-- no container has the key, or it was forgotten: the index lacks it
+abbrev pub IsLacked : Store → (forgotten : List (List ℕ)) → List ℕ → Type 0
+IsLacked store forgotten key = (newest 0 store.held key ≡ None) ⊎ Contains forgotten key
+
+-- the copy that the index has of a segment's key, if there is one, has its level and its length
+abbrev pub Fits : Store → (forgotten : List (List ℕ)) → Kind → Segment → Type 0
+Fits store forgotten kind s =
+    IsLacked store forgotten (segment_key kind s) ⊎ HasCopy store (record { kind = kind; segment = s })
+
 -- how offered bytes and held ones differ: by their lengths, or by the first byte that does
 abbrev pub DifferBy : Difference → List ℕ → List ℕ → Type 0
 DifferBy (Length mine other) offered held = (mine ≡ length offered) × (other ≡ length held) × (mine ≢ other)

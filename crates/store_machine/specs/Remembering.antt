@@ -2,7 +2,7 @@
 -- Collecting.antt and Opening.antt that says more of files, in their order, with what it says more. A row that is not here says as much of
 -- roots as of files; so do an opened read and its end, by the names and the rests that Forgetting.antt ties. It is said of the machine of
 -- files, m, before the step; and of that of roots after it, t, only where a row speaks of what the step made.
-use Rattle.std.specs.Prelude.{◌≡◌, ℕ, suc, ◌≤◌, List, [], ◌∷◌, ◌++◌, get_or, length, Contains, Some, None, Result, Ok, Err}
+use Rattle.std.specs.Prelude.{◌≡◌, ℕ, suc, ◌≤◌, List, [], ◌∷◌, ◌++◌, get_or, length, take, Contains, Some, None, Result, Ok, Err}
 use Rattle.std.specs.List.{AllByRecursion}
 use Rattle.container_meta.specs.declared.kind.Kind.{Kind}
 use Rattle.container_meta.specs.Segments.{Segment, segment_key}
@@ -25,9 +25,10 @@ use Rattle.store_machine.specs.Collecting.{GoesOver, IsCopyOf, IsRecordOf, MayBr
 use Rattle.store_machine.specs.Done.{Done}
 use Rattle.store_machine.specs.Done as done
 use Rattle.store_machine.specs.Forgetting.{Forgets, SameNow, SamePart, forget_step}
-use Rattle.store_machine.specs.Legal.{Fits, HoldsValue, IsFirstClash, IsLacked, Legal}
+use Rattle.store_machine.specs.Legal.{AllFit, HoldsValue, IsFirstClash, Legal}
 use Rattle.store_machine.specs.Machine.{Collection, Found, Machine, Reading, Stepped, Stopped, Sweep, Sweeping, part_in}
-use Rattle.store_machine.specs.Needs.{HasCopy, IsNeeded, NamesNeed, IsClash}
+use Rattle.store_machine.specs.Needs.{HasCopy, IsLacked, IsNeeded, NamesNeed, IsClash}
+use Rattle.store_machine.specs.Offers.{sealed_in}
 use Rattle.store_machine.specs.Opening.{IsGivenBack, IsNamedBy, MayBeFound, MayRefuseOpening, Stands, freeing}
 use Rattle.store_machine.specs.Values.{of_files, of_roots}
 
@@ -72,7 +73,7 @@ AddsToStep phase m t = (c : Collection (List ℕ)) (d : Collection Root) → m.c
 abbrev pub AddsToDone : ℕ → Asked (List ℕ) → Done → FileMachine → RootMachine → Type 0
 AddsToDone a (asked.Claim seg) done.Held m t = HasCopy m.store seg × ¬ (Contains m.forgotten (segment_key seg.kind seg.segment))
 AddsToDone a (asked.Claim seg) done.Absent m t = IsLacked m.store m.forgotten (segment_key seg.kind seg.segment)
-AddsToDone a (asked.Seal filled) (done.Sealed id) m t = AllByRecursion (Fits m.store m.forgotten filled.kind) filled.segments
+AddsToDone a (asked.Seal offered) (done.Sealed id count) m t = AllFit of_files (take count offered) m
 AddsToDone a (asked.Commit name file) (done.Committed sequence) m t = IsWhole file m
 AddsToDone a asked.ReadNext (done.Bytes bytes) m t = ComesNext a bytes m t
 AddsToDone a asked.GcStep (done.Did phase) m t = AddsToStep phase m t
@@ -83,9 +84,9 @@ AddsToDone a step answer m t = Unit {0}
 abbrev pub AddsToRefused : ℕ → Asked (List ℕ) → Refusal → FileMachine → RootMachine → Type 0
 AddsToRefused a (asked.Claim seg) (Clash key at) m t = IsClash m.store m.forgotten seg key at
 AddsToRefused a (asked.Claim seg) (Corrupt slot offset count want got) m t = ⊥
-AddsToRefused a (asked.Seal filled) (Clash key at) m t = IsFirstClash of_files filled key at m
-AddsToRefused a (asked.Seal filled) (Corrupt slot offset count want got) m t = ⊥
-AddsToRefused a (asked.Seal filled) DiskWrite m t = AllByRecursion (Fits m.store m.forgotten filled.kind) filled.segments
+AddsToRefused a (asked.Seal offered) (Clash key at) m t = IsFirstClash of_files (sealed_in offered m) key at m
+AddsToRefused a (asked.Seal offered) (Corrupt slot offset count want got) m t = ⊥
+AddsToRefused a (asked.Seal offered) DiskWrite m t = AllFit of_files (sealed_in offered m) m
 AddsToRefused a (asked.Commit name file) DiskWrite m t = IsWhole file m
 -- what was to come is to come still, whatever nodes the machine of roots came to before
 AddsToRefused a asked.ReadNext DiskRead m t = SamePart (part_in m a) (part_in t a)

@@ -33,10 +33,11 @@ HoldsFile file store = (length file ≤ MOST_FILE) × ((p : Piece) → IsPieceOf
 abbrev pub LacksPiece : List ℕ → Store → Type 0
 LacksPiece file store = (p : Piece) × (IsPieceOf file p × (newest 0 store.held (piece_key p) ≡ None))
 
--- what is claimed is a piece of it, and so is each of what is sealed
+-- what is claimed is a piece of it, and so is each of what is offered
 abbrev pub AsksPieces : List ℕ → Asked (List ℕ) → Type 0
 AsksPieces file (asked.Claim seg) = HasPieceOf file seg
-AsksPieces file (asked.Seal filled) = AllByRecursion (λ s. HasPieceOf file (record { kind = filled.kind; segment = s })) filled.segments
+AsksPieces file (asked.Seal offered) =
+    AllByRecursion (λ c. AllByRecursion (λ s. HasPieceOf file (record { kind = c.kind; segment = s })) c.segments) offered
 AsksPieces file step = ⊥
 
 -- these bytes may come still, after this line: none once the file is to end

@@ -1,9 +1,8 @@
 -- A claim of a segment that is held leaves both invariants of a collection, where the segment's key becomes live.
-use Rattle.gc_steps.proofs.Prelude.{◌≡◌, ◌⊎◌, ◌<◌, inl, inr, ℕ, Bool, true, false, cond, List, length, Some, refl, sym, ◌∙◌, ap, nat_list_cmp_total, bytes_eq, bytes_eq-Decides, ACTORS, Part, Writing, Pin, PinMap, Place, PlaceMap, LiveKeys, Files, Store, IsStoreOf, tied, CoreInvariant, Collection, IsPartKey, Marks}
+use Rattle.gc_steps.proofs.Prelude.{◌≡◌, ◌⊎◌, ◌<◌, inl, inr, ℕ, Bool, true, false, cond, List, length, Some, refl, sym, ◌∙◌, ap, nat_list_cmp_total, bytes_eq, bytes_eq-Decides, ACTORS, Part, Writing, Pin, PinMap, PlaceMap, LiveKeys, Files, Store, IsStoreOf, tied, CoreInvariant, Collection, IsPartKey, Marks}
 use Rattle.std.proofs.Common.{◌↔◌}
 use Rattle.std.specs.FinMap as finite
 use Rattle.actor_parts.specs.Parts.{part_of, with_part}
-use Rattle.gc_enumerate.specs.Live.{IsLiveAt, SharesMark}
 use Rattle.gc_steps.proofs.Carried.{KeepsBoth, moves_none}
 use Rattle.gc_steps.proofs.GainedPins.{Gains, Grows, gained}
 
@@ -41,13 +40,6 @@ module _ (pins : PinMap) (key : List ℕ) (pin : Pin) where
           by_test true is = (pin, got other ∙ ap (λ (b : Bool). cond b (Some pin) (finite.get pins other)) is)
           by_test false is = (was.0, got other ∙ ap (λ (b : Bool). cond b (Some pin) (finite.get pins other)) is ∙ was.1)
 
--- a mark that is shared is that of one key
-one_mark : (old marked : LiveKeys) (key : List ℕ) (place : Place)
-    → ((other : List ℕ) (there : Place) → IsLiveAt marked other there ↔ (IsLiveAt old other there ⊎ SharesMark other there key place))
-    → Marks (λ other. other ≡ key) old marked
-unfolding SharesMark
-one_mark old marked key place shares = shares
-
 -- The key of a segment that is held is pinned, and marked.
 pub claimed_key : (index : PlaceMap) (store : Store) (image : List ℕ) (files : Files) (parts : List Part) (c : Collection) (marked : LiveKeys) (actor : ℕ) (pins : PinMap)
     (key : List ℕ) (pin : Pin)
@@ -70,13 +62,3 @@ claimed_key index store image files parts c marked actor pins key pin below ther
       same = λ k others. refl;
       slots = λ slot h is. inl is;
     }
-
--- So it is where the mark is said by those that share it.
-pub claimed : (index : PlaceMap) (store : Store) (image : List ℕ) (files : Files) (parts : List Part) (c : Collection) (marked : LiveKeys) (actor : ℕ) (pins : PinMap)
-    (key : List ℕ) (pin : Pin) (place : Place)
-    → actor < ACTORS → actor < length parts → part_of parts actor ≡ Writing pins
-    → ((other : List ℕ) (there : Place) → IsLiveAt marked other there ↔ (IsLiveAt c.live other there ⊎ SharesMark other there key place))
-    → CoreInvariant index store files (with_part parts actor (Writing (finite.insert pins key pin))) image → IsStoreOf store files image
-    → KeepsBoth index index store store parts (with_part parts actor (Writing (finite.insert pins key pin))) image image c (record c { live = marked })
-claimed index store image files parts c marked actor pins key pin place below there writing shares core holds =
-    claimed_key index store image files parts c marked actor pins key pin below there writing (one_mark c.live marked key place shares) core holds

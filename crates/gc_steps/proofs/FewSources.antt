@@ -88,9 +88,3 @@ module _ (most : ℕ) (t u : Tables) (known_before known : Option PlaceMap) (old
   -- A step that is done leaves it so.
   pub few_step : IsUnderWay t.held c → StepsTo c.stage c.sweep.next was is_now → TablesAfter c.stage c.sweep.next was is_now → HasFewSources most u.held d
   few_step under steps tables = by_stage c.stage c.sweep.next refl refl under steps tables
-
-  abbrev StaysSo : Type 0
-  StaysSo = (d.stage ≡ c.stage) × (d.snapshot ≡ c.snapshot) × (d.sweep.sources ≡ c.sweep.sources)
-
-  all_same : d ≡ c → StaysSo
-  all_same is = (ap (λ (x : Collection). x.stage) is, ap (λ (x : Collection). x.snapshot) is, ap (λ (x : Collection). x.sweep.sources) is)

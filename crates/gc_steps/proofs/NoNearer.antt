@@ -111,12 +111,3 @@ as_many held t now c slot h chosen free was is next under =
     (omega (arith, free.within, ap length was.ids_are, many_ids held)) (omega (arith, under.began, next))
     (is.ids_are ∙ ids_with slot h held ∙ ap (λ (ids : List ℕ). set ids slot h.id) (sym was.ids_are))
     (is.counts_are ∙ counts_with slot h held ∙ ap (λ (counts : List SlotCount). set counts slot (count_of (Some h))) (sym was.counts_are)) chosen c refl c.stage
-
--- and there are as many containers that were there when the collection began
-pub old_many : (held : List (Option HeaderValue)) (t now : SlotTable) (c : Collection) (slot : ℕ) (h : HeaderValue) → IsFirstFree slot held → RepresentsSlots held t
-    → RepresentsSlots (with_slot slot h held) now → t.last_id < h.id → IsUnderWay t c → (from : ℕ) → old_from c.snapshot now from ≡ old_from c.snapshot t from
-old_many held t now c slot h free was is next under from =
-    old_from_same t now c.snapshot slot h.id (count_of (Some h)) (ap (λ (ids : List ℕ). get_or ids slot 0) was.ids_are ∙ closed_slot held slot free.closed)
-    (omega (arith, free.within, ap length was.ids_are, many_ids held)) (omega (arith, under.began, next))
-    (is.ids_are ∙ ids_with slot h held ∙ ap (λ (ids : List ℕ). set ids slot h.id) (sym was.ids_are))
-    (is.counts_are ∙ counts_with slot h held ∙ ap (λ (counts : List SlotCount). set counts slot (count_of (Some h))) (sym was.counts_are)) from

@@ -31,7 +31,7 @@ pub use Rattle.container_meta.specs.declared.kind.Kind.{Kind}
 pub use Rattle.container_meta.specs.declared.kind.Kind.TheVariants.{Leaf}
 pub use Rattle.container_meta.specs.declared.place.Place.{Place}
 pub use Rattle.copy_forward.specs.Copying.{PlansBy}
-pub use Rattle.copy_forward.specs.Entries.{HasLiveCopy, MapStays, SumsLive}
+pub use Rattle.copy_forward.specs.Entries.{MapStays, SumsLive}
 pub use Rattle.copy_forward.specs.Planning.{source_of}
 pub use Rattle.copy_forward.specs.declared.plan.Plan.{Plan}
 pub use Rattle.dd_disk.proofs.Shows.{shown_content, until}

@@ -402,3 +402,33 @@ answer_ends known breaks old new before after buf (Err refusal) ok err = (λ is.
 pub no_answer : {T E : Type 0} (result : Result T E) (P : T → Type 0) (e : E) → IsErrAnd result (λ y. y ≡ e) → IfOk result P
 no_answer (Ok x) P e passed = absurd passed
 no_answer (Err y) P e passed = tt
+
+-- ---- reads one after the other, for those who make them
+
+pub gives_any : (P : List ℕ → List ℕ → Type 0) (before after : List Top) (count : ℕ) (bytes : List ℕ) → Gives P before after count bytes →
+    Gives AnyBytes before after (length bytes) bytes
+gives_any P before after count bytes gives = record {
+  next = gives.next;
+  walked = walked_map P AnyBytes (λ key read was. tt) before (gives.next ∷ after) gives.walked;
+  leaf = gives.leaf;
+  read = record {
+    was_read = tt;
+    digest = gives.read.digest;
+    named = gives.read.named ∙ sym gives.read.long;
+    long = refl;
+    some = omega (arith, gives.read.some, gives.read.long);
+  };
+}
+
+-- a read that was refused after others
+pub all_walked : (P : List ℕ → List ℕ → Type 0) (start ahead after : List Top) (segments : List (List ℕ)) → GivesAll start segments ahead → Walked P ahead after →
+    GivesAll start segments after
+all_walked P start ahead after [] all walked = walked_on AnyBytes start ahead after all (walked_map P AnyBytes (λ key read was. tt) ahead after walked)
+all_walked P start ahead after (s ∷ ss) all walked = (all.0, (all.1.0, all.1.1, all.1.2, all_walked P all.1.0 ahead after ss all.1.3 walked))
+
+-- one that gave a segment
+pub all_given : (P : List ℕ → List ℕ → Type 0) (start ahead after : List Top) (segments : List (List ℕ)) (count : ℕ) (bytes : List ℕ) → GivesAll start segments ahead →
+    Gives P ahead after count bytes
+    → GivesAll start (segments ++ bytes ∷ []) after
+all_given P start ahead after [] count bytes all gives = (ahead, (after, all, gives_any P ahead after count bytes gives, walked_none AnyBytes after))
+all_given P start ahead after (s ∷ ss) count bytes all gives = (all.0, (all.1.0, all.1.1, all.1.2, all_given P all.1.0 ahead after ss count bytes all.1.3 gives))

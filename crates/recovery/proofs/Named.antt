@@ -1,5 +1,5 @@
 -- Nodes by the bytes that name them.
-use Rattle.recovery.proofs.Prelude.{◌⊎◌, inl, inr, ℕ, Bool, true, false, cond, List, ◌∷◌, ◌++◌, length, take, drop, Some, refl, sym, ◌∙◌, ap, slice_cmp, w64, nat_cmp, Top, HasNode, NodeSet, node_key}
+use Rattle.recovery.proofs.Prelude.{◌⊎◌, inl, inr, ℕ, Bool, true, false, cond, List, ◌∷◌, ◌++◌, take, drop, Some, refl, sym, ◌∙◌, ap, slice_cmp, w64, nat_cmp, Top, HasNode, NodeSet, node_key}
 use Rattle.std.proofs.Common.{◌≡◌}
 use Rattle.std.specs.FinMap as finite
 use Rattle.std.specs.Cmp.Lexicographic.{nat_list_cmp_total}

@@ -1,10 +1,10 @@
 -- What is so of a store still, once a container was sealed or a record was added.
-use Rattle.store_model.proofs.Prelude.{◌≡◌, ℕ, suc, ◌<◌, ◌≤◌, List, [], ◌∷◌, ◌++◌, sym, ◌∙◌, subst, arith, length-append, Change, RecordValue, IsChange, IsRecord, Kind, Segment, HeaderValue, header_of, NameMap, HasPlace, names_with, names_after, last_of, free_slots, first_free, Store, IsValidFor, names_of, CanHold, with_sealed, record_of, with_cell, with_change}
+use Rattle.store_model.proofs.Prelude.{◌≡◌, ℕ, suc, ◌<◌, ◌≤◌, List, [], ◌∷◌, ◌++◌, sym, ◌∙◌, subst, arith, length-append, Change, RecordValue, IsChange, IsRecord, Kind, Segment, HeaderValue, header_of, NameMap, HasPlace, names_with, names_after, last_of, last_id, free_slots, first_free, Store, IsValidFor, names_of, CanHold, with_sealed, record_of, with_cell, with_change}
 use Rattle.std.specs.FinMap as finite
 use Rattle.namespace.specs.Names.{IsTaken}
 use Rattle.store_model.specs.Journal.{Follow}
 use Rattle.store_model.specs.Steps.{CanChangeName}
-use Rattle.store_model.proofs.Filled.{length-with_slot, free_less, headers_with, different_with}
+use Rattle.store_model.proofs.Filled.{length-with_slot, free_less, headers_with, last_new, different_with}
 use Rattle.store_model.proofs.Cells.{names_with_cell, last_with_cell, room_with_cell, valid_with_cell}
 use Rattle.store_model.proofs.NameChanges.{record_right, record_rises}
 
@@ -44,6 +44,10 @@ module _ {spare : ℕ} (id : ℕ) (kind : Kind) (segments : List Segment) (store
   some : 1 ≤ free_slots store.held
   some = omega (arith, can.slot)
 
+  -- its id is the last
+  pub last_sealed : last_id (with_sealed id kind segments store).held ≡ id
+  last_sealed = last_new new_header store.held some can.new_id
+
   -- one slot fewer is closed
   pub free_sealed : suc (free_slots (with_sealed id kind segments store).held) ≡ free_slots store.held
   free_sealed = free_less new_header store.held some
@@ -59,3 +63,5 @@ module _ {spare : ℕ} (id : ℕ) (kind : Kind) (segments : List Segment) (store
     headers = headers_with (first_free store.held) new_header store.held sound.headers can.right;
     different = different_with (first_free store.held) new_header store.held sound.different can.new_id;
   }
+
+-- ---- roots

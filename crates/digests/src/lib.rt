@@ -4,6 +4,7 @@
 ghost use Rattle.std.specs.Prelude.{◌≡◌, map, IfOk};
 ghost use Rattle.sha2.specs.Sha256.{sha256};
 
+use rayon::current_num_threads;
 use rayon::prelude::*;
 use sha2::{Digest, Sha256};
 use std::alloc::{AllocError, Global};
@@ -13,7 +14,7 @@ use std::thread::Threads;
 const LEAST_PIECE: usize = 15;
 
 /// The SHA-256 (FIPS 180-4) of each segment, in their order, as one thread would take them. Threads are started where there are
-/// 30 or more, at most one for each processor or so, and are joined before it returns. It fails for want of memory alone.
+/// 30 or more and more than one processor, two for each at most, and are joined before it returns. It fails for want of memory alone.
 pub fn digests(
     rt: &(impl Threads + Sync),
     alloc: Global,
@@ -21,6 +22,12 @@ pub fn digests(
 ) -> Result<Vec<[u8; 32]>, AllocError>
     ensures { IfOk result (λ all. all.items ≡ map (λ s. sha256 s.items) segments.now) }
 {
+    // With one processor a thread more would only take its turn.
+    let least = if current_num_threads(rt) < 2 {
+        segments.len()
+    } else {
+        LEAST_PIECE
+    };
     segments
         .par_iter()
         .map(
@@ -28,6 +35,6 @@ pub fn digests(
                 ensures { result ≡ sha256 segment.now.items }
             { Sha256::digest(segment.as_slice()) },
         )
-        .with_min_len(LEAST_PIECE)
+        .with_min_len(least)
         .collect(rt, alloc)
 }

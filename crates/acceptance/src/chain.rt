@@ -5,20 +5,18 @@ use backup_engine::{backup, backup_alone};
 use dd_disk::Disk;
 use dd_io::{MemSink, MemSource};
 use std::alloc::Global;
-use std::thread::Threads;
 use transcripts::{Fault, Text, add_piece, bytes_of, number, word_of, words_of};
 
 /// What came of a chain: the answers of its items, parted as they are.
 pub(crate) fn answers_of<D: Disk + Send>(
     rt: &HostRuntime,
-    threads: &(impl Threads + Sync),
     disk: &mut D,
     chain: &str,
 ) -> Result<String, Fault> {
     let mut text = Text::new(rt.alloc());
     for item in chain.split(" ; ") {
         text.part_by(" ; ");
-        answer(rt, threads, disk, item, &mut text)?;
+        answer(rt, disk, item, &mut text)?;
     }
     Ok(text.whole()?)
 }
@@ -26,7 +24,6 @@ pub(crate) fn answers_of<D: Disk + Send>(
 /// An item is a call of the disk, a script, or another command.
 fn answer<D: Disk + Send>(
     rt: &HostRuntime,
-    threads: &(impl Threads + Sync),
     disk: &mut D,
     item: &str,
     text: &mut Text,
@@ -34,7 +31,7 @@ fn answer<D: Disk + Send>(
     let alloc = rt.alloc();
     if let Some((words, lines)) = script_in(item) {
         let run = script_run(alloc, words, lines)?;
-        add_run(rt, threads, disk, run, text);
+        add_run(rt, disk, run, text);
         return Ok(());
     }
     let words = words_of(alloc, item)?;
@@ -55,7 +52,7 @@ fn answer<D: Disk + Send>(
         }
         words => {
             let run = run_of(alloc, words)?;
-            add_run(rt, threads, disk, run, text);
+            add_run(rt, disk, run, text);
         }
     }
     Ok(())
@@ -173,20 +170,14 @@ fn add_option(run: &mut Run, script: &str) -> Result<(), Fault> {
 
 /// Runs the words over a disk. The answer is the status, then what went to the sink, then the notes; of scripts as `add_replies` has them,
 /// and the lines of a list or a check as those are.
-fn add_run<D: Disk + Send>(
-    rt: &HostRuntime,
-    threads: &(impl Threads + Sync),
-    disk: &mut D,
-    run: Run,
-    text: &mut Text,
-) {
+fn add_run<D: Disk + Send>(rt: &HostRuntime, disk: &mut D, run: Run, text: &mut Text) {
     let alloc = rt.alloc();
     let mut source = MemSource::in_pieces(run.source, run.source_fails, (run.most as usize).max(1));
     let mut sink = MemSink::new(alloc, run.sink_fails);
     let mut notes = MemSink::new(alloc, run.notes_fails);
     let status = if run.is_alone {
         backup_alone(
-            threads,
+            rt,
             alloc,
             &run.words,
             disk,
@@ -196,7 +187,7 @@ fn add_run<D: Disk + Send>(
         )
     } else {
         backup(
-            threads,
+            rt,
             alloc,
             &run.words,
             disk,

@@ -13,16 +13,10 @@ mod turned;
 use stage::Disks;
 use std::io;
 use std::process::ExitCode;
-use std::thread::Threads;
 use transcripts::Suite;
 
-// How many rows failed.
-fn failures<T: Threads + Sync>(rt: &HostRuntime, threads: &T) -> io::Result<u64> {
-    let mut suite = Suite::new(rt.alloc(), Disks::new(rt.alloc(), threads));
-    suite.run_all(rt)
-}
-
 fn main(rt: HostRuntime) -> io::Result<ExitCode> {
-    let failed = failures(&rt, &rt)?;
+    let mut suite = Suite::new(rt.alloc(), Disks::new(rt.alloc()));
+    let failed = suite.run_all(&rt)?;
     Ok(ExitCode::from(if failed == 0 { 0 } else { 1 }))
 }

@@ -7,7 +7,6 @@ use dd_disk::{Asked, BlindDisk, FileDisk, Fill, MemDisk};
 use std::alloc::Global;
 use std::fs::File;
 use std::io;
-use std::thread::Threads;
 use transcripts::{
     FILLS, Fault, Stage, Text, add_piece, by_fill, bytes_of, change, fill_of, number, numbers_of,
     words_of,
@@ -20,10 +19,9 @@ struct Saved {
     bytes: Vec<u8>,
 }
 
-/// The disk, and the images that were saved. `threads` is the runtime, which may start threads only as a parameter of such a type.
+/// The disk, and the images that were saved.
 #[derive(Drop)]
-pub(crate) struct Disks<'t, T> {
-    threads: &'t T,
+pub(crate) struct Disks {
     disk: MemDisk,
     saved: Vec<Saved>,
 }
@@ -33,7 +31,7 @@ fn disk_of(alloc: Global, bytes: Vec<u8>) -> MemDisk {
     MemDisk::new(bytes, Vec::new(alloc))
 }
 
-impl<T: Threads + Sync> Stage for Disks<'_, T> {
+impl Stage for Disks {
     fn prepare(&mut self, alloc: Global, line: &str) -> Result<(), Fault> {
         let words = words_of(alloc, line)?;
         match words.as_slice() {
@@ -66,10 +64,9 @@ impl<T: Threads + Sync> Stage for Disks<'_, T> {
     }
 }
 
-impl<'t, T: Threads + Sync> Disks<'t, T> {
-    pub(crate) fn new(alloc: Global, threads: &'t T) -> Disks<'t, T> {
+impl Disks {
+    pub(crate) fn new(alloc: Global) -> Disks {
         Disks {
-            threads,
             disk: disk_of(alloc, Vec::new(alloc)),
             saved: Vec::new(alloc),
         }
@@ -135,40 +132,33 @@ impl<'t, T: Threads + Sync> Disks<'t, T> {
     // What a chain answers over the disk, or over another that is made of it for this chain alone.
     fn chain_over(&mut self, rt: &HostRuntime, over: &str, chain: &str) -> Result<String, Fault> {
         let alloc = rt.alloc();
-        let threads = self.threads;
         let words = words_of(alloc, over)?;
         match words.as_slice() {
-            [] => answers_of(rt, threads, &mut self.disk, chain),
+            [] => answers_of(rt, &mut self.disk, chain),
             ["sealed", at, edits @ ..] => {
                 let mut bytes = self.edited(alloc, number(at)?, edits)?;
                 seal(&mut bytes, number(at)?)?;
-                answers_of(rt, threads, &mut disk_of(alloc, bytes), chain)
+                answers_of(rt, &mut disk_of(alloc, bytes), chain)
             }
             ["unsealed", at, edits @ ..] => {
                 let bytes = self.edited(alloc, number(at)?, edits)?;
-                answers_of(rt, threads, &mut disk_of(alloc, bytes), chain)
+                answers_of(rt, &mut disk_of(alloc, bytes), chain)
             }
             ["fail", calls @ ..] => {
                 let bytes = self.disk.bytes().to_vec(alloc)?;
                 answers_of(
                     rt,
-                    threads,
                     &mut MemDisk::new(bytes, numbers_of(alloc, calls)?),
                     chain,
                 )
             }
             ["lie", lies @ ..] => {
                 let bytes = self.disk.bytes().to_vec(alloc)?;
-                answers_of(
-                    rt,
-                    threads,
-                    &mut BlindDisk::new(bytes, lies_of(alloc, lies)?),
-                    chain,
-                )
+                answers_of(rt, &mut BlindDisk::new(bytes, lies_of(alloc, lies)?), chain)
             }
             ["turn", call, name] => self.after_turn(rt, number(call)?, name, chain),
             ["crash", call] => self.after_stops(rt, number(call)?, chain),
-            ["file", length, size] => over_file(rt, threads, number(length)?, number(size)?, chain),
+            ["file", length, size] => over_file(rt, number(length)?, number(size)?, chain),
             _ => Err(Fault::Line),
         }
     }
@@ -185,7 +175,7 @@ impl<'t, T: Threads + Sync> Disks<'t, T> {
         let image = self.saved(name)?;
         let bytes = self.disk.bytes().to_vec(alloc)?;
         let mut disk = TurnedDisk::new(bytes, image.clone()?, call);
-        let answers = answers_of(rt, self.threads, &mut disk, chain)?;
+        let answers = answers_of(rt, &mut disk, chain)?;
         let mut text = Text::new(alloc);
         text.add(answers.as_str());
         text.add(if disk.has(&image) {
@@ -221,7 +211,7 @@ impl<'t, T: Threads + Sync> Disks<'t, T> {
         let mut answers = Vec::new(alloc);
         for (_name, fill) in FILLS {
             let image = self.image_after(alloc, call, fill)?;
-            answers.push(answers_of(rt, self.threads, &mut disk_of(alloc, image), chain)?)?;
+            answers.push(answers_of(rt, &mut disk_of(alloc, image), chain)?)?;
         }
         by_fill(alloc, &answers)
     }
@@ -281,17 +271,11 @@ fn add_range(text: &mut Text, word: &str, at: u64, count: u64) {
 }
 
 // What a chain answers over a file of so many zeros, as a disk of this size.
-fn over_file(
-    rt: &HostRuntime,
-    threads: &(impl Threads + Sync),
-    length: u64,
-    size: u64,
-    chain: &str,
-) -> Result<String, Fault> {
+fn over_file(rt: &HostRuntime, length: u64, size: u64, chain: &str) -> Result<String, Fault> {
     let Ok(file) = file_of(rt, length) else {
         return Err(Fault::File);
     };
-    answers_of(rt, threads, &mut FileDisk::new(file, size), chain)
+    answers_of(rt, &mut FileDisk::new(file, size), chain)
 }
 
 fn file_of(rt: &HostRuntime, length: u64) -> io::Result<File> {

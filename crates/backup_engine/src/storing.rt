@@ -22,7 +22,6 @@ use ingest_session::{
 use reply_text::{Ending, stored_line};
 use session_turns::{MOST_PIECE, feed, make_turns};
 use std::alloc::Global;
-use std::thread::Threads;
 use store_core::HasState;
 
 // The laws that feeding a session rests on. The function does nothing.
@@ -42,19 +41,8 @@ fn can_be_pushed(bytes: &[u8])
     ensures { (d : Digits) × (pushed_bytes d.digits ≡ bytes.now) }
 {}
 
-// Has the digests of the segments that wait taken at once, where they are so many that threads pay. Where there is no memory for it,
-// each is taken as its turn comes.
-fn hash_ahead<R: Threads + Sync>(rt: &R, session: &mut Session)
-    ensures { session.new ≡ session.old }
-{
-    if session.hash_pays() {
-        let _hashed = session.hash(rt);
-    }
-}
-
 // Has a session take all that the source has left; turns are made as its queue fills.
-fn fill<R: Threads + Sync, C: HasState, S: Source>(
-    rt: &R,
+fn fill<C: HasState, S: Source>(
     core: &mut C,
     session: &mut Session,
     source: &mut S,
@@ -78,13 +66,11 @@ fn fill<R: Threads + Sync, C: HasState, S: Source>(
         }
         can_be_pushed(&piece[..count]);
         feed(core, first(), session, &piece[..count], buf)?;
-        hash_ahead(rt, session);
     }
 }
 
 // The same, and makes all turns that are due then.
-fn take_in<R: Threads + Sync, C: HasState, S: Source>(
-    rt: &R,
+fn take_in<C: HasState, S: Source>(
     core: &mut C,
     session: &mut Session,
     source: &mut S,
@@ -99,15 +85,14 @@ fn take_in<R: Threads + Sync, C: HasState, S: Source>(
     ensures running { IsRunning (C.state core.new) }
 {
     sessions_have_laws();
-    fill(rt, core, session, source, buf)?;
+    fill(core, session, source, buf)?;
     session.finish()?;
     make_turns(core, first(), session, buf)?;
     Ok(())
 }
 
 /// Stores all that the source has left under a name, and writes the reply.
-pub(crate) fn store_source<R: Threads + Sync, C: HasState, S: Source, K: Sink>(
-    rt: &R,
+pub(crate) fn store_source<C: HasState, S: Source, K: Sink>(
     alloc: Global,
     core: &mut C,
     source: &mut S,
@@ -122,7 +107,7 @@ pub(crate) fn store_source<R: Threads + Sync, C: HasState, S: Source, K: Sink>(
     let mut buf = SegBuf::new(alloc)?;
     let mut session = Session::new(alloc)?;
     core.make_step(first(), Step::Begin, &mut buf)?;
-    take_in(rt, core, &mut session, source, &mut buf)?;
+    take_in(core, &mut session, source, &mut buf)?;
     let Some(root) = session.ready() else {
         unreachable!()
     };

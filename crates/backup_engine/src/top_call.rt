@@ -25,7 +25,6 @@ use refusals::Refusal;
 use reply_text::{Ending, status_of, write_fault};
 use script_lines::reads_tell_scripts;
 use std::alloc::{AllocError, Global};
-use std::thread::Threads;
 
 /// Runs one command, by its words, over a disk, and gives the exit status (docs/FORMAT.md, 'Commands').
 ///
@@ -34,7 +33,7 @@ use std::thread::Threads;
 /// are 2, and so is a script that is none; a fault of the source is 5, of the sink 6; a refusal has its own status, and so has want of
 /// memory, also for the words. `check` writes a line for each damage as it is found, and is 7 where there is one. `notes` get a line where
 /// the status isn't 0, but for that; a failure of theirs changes no status.
-pub fn backup<R: Threads + Sync, D: Disk + Send, S: Source, K: Sink, Q: Sink>(
+pub fn backup<R, D: Disk + Send, S: Source, K: Sink, Q: Sink>(
     rt: &R,
     alloc: Global,
     words: &[String],
@@ -58,9 +57,9 @@ pub fn backup<R: Threads + Sync, D: Disk + Send, S: Source, K: Sink, Q: Sink>(
     backup_alone(rt, alloc, words, disk, source, sink, notes)
 }
 
-/// `backup` for the commands that one caller makes alone. Digests may be taken by several threads, which have ended when it returns.
-pub fn backup_alone<R: Threads + Sync, D: Disk + Send, S: Source, K: Sink, Q: Sink>(
-    rt: &R,
+/// `backup` for the commands that start no threads.
+pub fn backup_alone<R, D: Disk + Send, S: Source, K: Sink, Q: Sink>(
+    _rt: &R,
     alloc: Global,
     words: &[String],
     disk: &mut D,
@@ -87,10 +86,7 @@ pub fn backup_alone<R: Threads + Sync, D: Disk + Send, S: Source, K: Sink, Q: Si
         Err(_) => return give_up(notes, &Ending::Refused(Refusal::Memory)),
     };
     match line {
-        Line::Single(command) => conclude(
-            notes,
-            run_command(rt, alloc, &command, disk, source, sink),
-        ),
+        Line::Single(command) => conclude(notes, run_command(alloc, &command, disk, source, sink)),
         Line::Run => conclude(notes, run(alloc, disk, source, sink)),
         Line::Check => match check(alloc, disk, sink) {
             Ok(status) => status,
@@ -111,8 +107,7 @@ pub fn size_of_format(alloc: Global, words: &[String]) -> Result<Option<u64>, Al
 }
 
 // Does what a command says.
-fn run_command<R: Threads + Sync, D: Disk, S: Source, K: Sink>(
-    rt: &R,
+fn run_command<D: Disk, S: Source, K: Sink>(
     alloc: Global,
     command: &Command<'_>,
     disk: &mut D,
@@ -127,7 +122,7 @@ fn run_command<R: Threads + Sync, D: Disk, S: Source, K: Sink>(
 {
     match command {
         Command::Format(slots) => format(alloc, disk, sink, *slots),
-        Command::Ingest(name) => ingest(rt, alloc, disk, source, sink, name),
+        Command::Ingest(name) => ingest(alloc, disk, source, sink, name),
         Command::Restore(name) => restore(alloc, disk, sink, name),
         Command::Delete(name) => delete(alloc, disk, sink, name),
         Command::List => list(alloc, disk, sink),

@@ -8,7 +8,6 @@ use std::env;
 use std::fs::{self, File, OpenOptions};
 use std::io::{self, BufReader, ErrorKind, Write};
 use std::process::ExitCode;
-use std::thread::Threads;
 use thiserror::Error;
 
 /// How many bytes are read of standard input at once, where it has as many: a file is given to a session in pieces of 4,096 bytes.
@@ -38,7 +37,7 @@ impl Failure {
 }
 
 fn main(rt: HostRuntime) -> ExitCode {
-    let status = match run(&rt, &rt) {
+    let status = match run(&rt) {
         Ok(status) => status,
         Err(failure) => {
             // A failure of standard error changes no status.
@@ -49,8 +48,7 @@ fn main(rt: HostRuntime) -> ExitCode {
     ExitCode::from(status)
 }
 
-// `threads` is the runtime too, which may start threads only as a parameter of such a type.
-fn run<R: Threads + Sync>(rt: &HostRuntime, threads: &R) -> Result<u8, Failure> {
+fn run(rt: &HostRuntime) -> Result<u8, Failure> {
     let words = read_words(rt)?;
     let (_program, words) = words.split_first().ok_or(Failure::Words)?;
     let (path, command) = words.split_first().ok_or(Failure::Words)?;
@@ -58,7 +56,7 @@ fn run<R: Threads + Sync>(rt: &HostRuntime, threads: &R) -> Result<u8, Failure> 
     let input = BufReader::with_capacity(rt.alloc(), READ_AHEAD, rt.stdin()).map_err(failure_of)?;
     let mut disk = open_disk(rt, path.as_str(), command)?;
     let mut source = StdSource::new(input);
-    Ok(run_command(rt, threads, command, &mut disk, &mut source))
+    Ok(run_command(rt, command, &mut disk, &mut source))
 }
 
 // The words of the command line, the program's name first. Where they can't be had they are faulty.
@@ -135,24 +133,15 @@ fn failure_of(error: io::Error) -> Failure {
     }
 }
 
-fn run_command<R: Threads + Sync, S: Source>(
+fn run_command<S: Source>(
     rt: &HostRuntime,
-    threads: &R,
     command: &[String],
     disk: &mut FileDisk,
     source: &mut S,
 ) -> u8 {
     let mut sink = StdSink::new(rt.stdout());
     let mut notes = StdSink::new(rt.stderr());
-    let status = backup(
-        threads,
-        rt.alloc(),
-        command,
-        disk,
-        source,
-        &mut sink,
-        &mut notes,
-    );
+    let status = backup(rt, rt.alloc(), command, disk, source, &mut sink, &mut notes);
     // What the streams hold back is written here: a reply that is lost now is a fault of the sink too.
     if rt.stdout().flush().is_err() && has_replied(command, status) {
         let _written = eprintln!(rt; "fault sink");

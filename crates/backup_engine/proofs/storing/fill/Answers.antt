@@ -21,12 +21,12 @@ pub loop-count-preserved : goal.loop-count-preserved
 loop-count-preserved g c =
     let read = c.in-Ok.ensures in
     let fed = c.in_ok-feed.ensures in
-    rw c.hash_ahead.ensures (record {
+    record {
       running = fed.running;
       ongoing = fed.ended ∙ c.loop-count.invariant.ongoing;
       so_far = fill_on _ g.C.HasState.state _ _ _ _ _ _ c.loop-count.invariant.so_far _ _ _ read.bytes read.cause.done c.sessions_have_laws.ensures c.can_be_pushed.ensures _
           c.first.ensures _ _ fed.feeds fed.ended;
-    })
+    }
 
 pub returns-in_err-feed-clause-fills : goal.returns-in_err-feed-clause-fills
 returns-in_err-feed-clause-fills g c =

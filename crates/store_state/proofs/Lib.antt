@@ -1,3 +1,4 @@
+mod Closed
 pub mod Changed
 pub mod Compared
 mod Entered

@@ -4,6 +4,7 @@ use Rattle.std.specs.Global.{Vec}
 use Rattle.std.specs.List.{AllByRecursion}
 use Rattle.disk_format.specs.declared.numbers.TheConstants.{RESERVE, LAST_ID}
 use Rattle.container_meta.specs.declared.kind.Kind.TheVariants.{Leaf}
+use Rattle.container_meta.specs.declared.place.Place.{Place}
 use Rattle.container_meta.specs.Places.{PlaceMap}
 use Rattle.container_meta.specs.Segments.{Contents}
 use Rattle.container_log.specs.Many.{HaveSegments, placed}
@@ -18,7 +19,7 @@ use Rattle.refusals.specs.declared.refusal.Refusal.TheVariants.{Memory, WrongPar
 use Rattle.store_model.specs.Image.{Store}
 use Rattle.store_model.specs.Slots.{free_slots}
 use Rattle.store_model.specs.Together.{Placed}
-use Rattle.store_state.specs.Comparing.{IsFirstUnlike}
+use Rattle.store_state.specs.Comparing.{FitSoFar, IsFirstUnlike}
 use Rattle.store_state.specs.declared.tables.Tables.{Tables}
 use Rattle.store_state.specs.Tables.{OfEach, closed_from}
 use Rattle.ingest_steps.specs.declared.offering.TheConstants.{MOST_TOGETHER}
@@ -104,6 +105,12 @@ WereHadIn filled pins hads =
 -- each was compared with what is held, and fits
 abbrev pub WereCompared : ℕ → Option PlaceMap → ((List ℕ → Type 0) → Type 0) → List Contents → Type 0
 WereCompared size known shown filled = AllByRecursion (WasCompared size known shown) filled
+
+-- the copies of the first containers, each of which fits
+abbrev pub FitIn : ℕ → Option PlaceMap → ((List ℕ → Type 0) → Type 0) → List Contents → List (Vec (Option Place)) → Type 0
+FitIn size known shown filled befores =
+    (i : ℕ) (c : Contents) (before : Vec (Option Place)) → slice_get filled i ≡ Some c → slice_get befores i ≡ Some before
+    → FitSoFar size known shown c.kind c.segments before.items
 
 -- the first segment, of the first container that has one, of which another copy is held: all before it were compared, and fit
 pub record IsFirstUnlikeIn (size : ℕ) (known : Option PlaceMap) (shown : (List ℕ → Type 0) → Type 0) (filled : List Contents) (refusal : Refusal)

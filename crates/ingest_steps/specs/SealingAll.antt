@@ -1,5 +1,5 @@
 -- What becomes of the disk, the index and the tables where several containers are sealed together (docs/MODEL.md, 'Claims and seals').
-use Rattle.std.specs.Prelude.{◌≡◌, ℕ, suc, ◌+◌, ◌≤◌, List, [], ◌∷◌, length, map, Option, Some, None, option_map}
+use Rattle.std.specs.Prelude.{◌≡◌, ℕ, suc, ◌+◌, ◌≤◌, List, [], ◌∷◌, length, map, slice_get, get_or, Option, Some, None, option_map}
 use Rattle.std.specs.List.{AllByRecursion}
 use Rattle.base_model.specs.Known.{Known, KnownWith}
 use Rattle.disk_format.specs.Layout.{slot_at}
@@ -8,7 +8,8 @@ use Rattle.dd_disk.specs.Ending.{Ending, Done, Refused, Unread, Broken}
 use Rattle.dd_disk.specs.Moves.{Way, Moves}
 use Rattle.dd_disk.specs.Wrote.{SameIn}
 use Rattle.container_meta.specs.Places.{PlaceMap}
-use Rattle.container_meta.specs.Segments.{Contents, entries_from, segment_key}
+use Rattle.container_meta.specs.Segments.{Contents, bytes_in, entries_from, segment_key}
+use Rattle.container_meta.specs.Spelling.{IsHeader, header_of}
 use Rattle.container_log.specs.Many.{NoSlot}
 use Rattle.segment_index.specs.Places.{KnownMap}
 use Rattle.store_model.specs.Collisions.{HasNoCollisions, ByteSet, IsIn, Stands}
@@ -58,15 +59,31 @@ sealing_all S ps store files = record {
 abbrev pub MayAllSeal : (List ℕ → Type 0) → List Placed → Type 0
 MayAllSeal S ps = AllByRecursion (λ p. AllByRecursion (MaySeal S p.kind) p.segments) ps
 
--- What becomes of what the content held: where the containers were written the newest copy of each key that the index had goes on, and
--- that of each of their segments is the segment; where they were refused each goes on.
-abbrev pub KeepsAllHeld : PlaceMap → Ending → List Placed → Store → List ℕ → List ℕ → Type 0
-KeepsAllHeld index Done ps store given new =
-    KeepsCopies (HasKey index) store given (with_all ps store) new
+-- What becomes of what the content held: where the containers were written the newest copy of each key of which P holds goes on, and that of
+-- each of their segments is the segment; where they were refused each goes on.
+abbrev pub KeepsAllHeld : (List ℕ → Type 0) → Ending → List Placed → Store → List ℕ → List ℕ → Type 0
+KeepsAllHeld P Done ps store given new =
+    KeepsCopies P store given (with_all ps store) new
     × AllByRecursion (λ p. AllByRecursion (λ s. HasNewest (with_all ps store).held (segment_key p.kind s) s.level s.bytes new) p.segments) ps
-KeepsAllHeld index Refused ps store given new = KeepsCopies AnyKey store given store new
-KeepsAllHeld index Unread ps store given new = KeepsCopies AnyKey store given store new
-KeepsAllHeld index Broken ps store given new = Unit {0}
+KeepsAllHeld P Refused ps store given new = KeepsCopies AnyKey store given store new
+KeepsAllHeld P Unread ps store given new = KeepsCopies AnyKey store given store new
+KeepsAllHeld P Broken ps store given new = Unit {0}
+
+-- their headers are right, under ids from one on
+abbrev pub AreRight : ℕ → List Contents → Type 0
+AreRight id filled = (i : ℕ) (c : Contents) → slice_get filled i ≡ Some c → IsHeader (header_of (id + i) c.kind c.segments)
+
+-- how many bytes of data each has
+abbrev pub AreSizes : List Contents → List ℕ → Type 0
+AreSizes filled sizes = (i : ℕ) (c : Contents) → slice_get filled i ≡ Some c → get_or sizes i 0 ≡ bytes_in c.segments
+
+-- Containers of data are sealed: of each store that the tables represent, and of any files. No two data segments of S of one digest differ.
+pub record SealsData (t : Tables) (ps : List Placed) (ending : Ending) (old new : DiskView) : Type 0 where
+  pub moves : (among : ByteSet) (store : Store) (known : Option PlaceMap) (files : Files) → Represents store known t
+      → HasNoCollisions (IsIn among) → MayAllSeal (IsIn among) ps → Moves (sealing_all (IsIn among) ps store files) ending old new
+  pub holds : (among : ByteSet) (store : Store) (known : Option PlaceMap) (files : Files) (given held : List ℕ) → Represents store known t
+      → old.content ≡ Some given → new.content ≡ Some held → Stands (IsIn among) store files given → HasNoCollisions (IsIn among)
+      → MayAllSeal (IsIn among) ps → KeepsAllHeld AnyKey ending ps store given held
 
 -- Containers are sealed, of each store that the tables represent these: where the index is its map, and no two data segments of S of one
 -- digest differ. What it leaves as it was it leaves so on any disk.
@@ -79,7 +96,7 @@ pub record SealsPlaced (t : Tables) (known : Option PlaceMap) (placed_in : Store
   pub holds : (among : ByteSet) (store : Store) (files : Files) (map : PlaceMap) (given held : List ℕ) → known ≡ Some map
       → Represents store known t → old.content ≡ Some given → new.content ≡ Some held → Stands (IsIn among) store files given
       → HasNoCollisions (IsIn among) → MayAllSeal (IsIn among) (placed_in store)
-      → KeepsAllHeld map ending (placed_in store) store given held
+      → KeepsAllHeld (HasKey map) ending (placed_in store) store given held
 
 -- those of an offer for which there is room
 abbrev pub SealsOffer : Tables → Option PlaceMap → List Contents → Ending → DiskView → DiskView → Type 0

@@ -1,6 +1,8 @@
 -- Several containers that are compared with what is held, one after the other.
-use Rattle.ingest_steps.proofs.Prelude.{◌≡◌, ℕ, suc, ◌+◌, ◌<◌, List, [], ◌∷◌, ◌++◌, length, take, Option, Some, None, refl, sym, ◌∙◌, ap, subst, arith, inl, inr, AllByRecursion, DiskView, IsLater, OnlyReads, Shows, Place, PlaceMap, Contents, Refusal, Memory, WasCompared}
-use Rattle.std.proofs.Common.{zero, slice_get}
+use Rattle.ingest_steps.proofs.Prelude.{◌≡◌, ℕ, suc, ◌+◌, ◌<◌, List, [], ◌∷◌, ◌++◌, length, take, Option, Some, None, refl, sym, ◌∙◌, ap, subst, arith, inl, inr, AllByRecursion, DiskView, IsLater, OnlyReads, Shows, Place, PlaceMap, Contents, entries_from, Refusal, Memory, WasCompared}
+use Rattle.std.proofs.Common.{zero, slice_get, take_all}
+use Rattle.store_state.specs.Indexing.{AreHad}
+use Rattle.store_state.specs.IndexingAll.{AreHadIn}
 use Rattle.std.specs.Global.{Vec}
 use Rattle.dd_disk.proofs.Shows.{since, until}
 use Rattle.refusals.specs.declared.refusal.Refusal.TheVariants.{DiskRead, Damaged}
@@ -94,3 +96,18 @@ module _ (size mid_size : ℕ) (known mid_known : Option PlaceMap) (old mid new 
   of_next DiskRead has = tt
   of_next (Damaged at why) has = sym same_known ∙ has
   of_next refusal has = first_unlike refusal has
+
+-- all were
+pub whole_compared : (size : ℕ) (known : Option PlaceMap) (old mid new : DiskView) (filled : List Contents) (befores : List (Vec (Option Place))) → OnlyReads old mid → IsLater mid new
+    → FitIn size known (Shows old mid) filled befores → length befores ≡ length filled → WereCompared size known (Shows old new) filled
+whole_compared size known old mid new filled befores reads later fit many =
+    subst (WereCompared size known (Shows old new)) (take_all (length filled) filled (omega arith))
+    (were_compared size known (Shows old new) filled befores (fit_on_until size known old mid new reads later filled befores fit) (length filled) many)
+
+-- what the map had then is what it has
+pub had_on : (size mid_size : ℕ) (known mid_known : Option PlaceMap) (shown : (List ℕ → Type 0) → Type 0) (filled : List Contents) (listed befores : List (Vec (Option Place)))
+    → mid_size ≡ size → mid_known ≡ known → listed ≡ befores → FitIn size known shown filled befores → AreHadIn mid_size mid_known filled listed
+had_on size mid_size known mid_known shown filled listed befores same_size same_known is fit = λ i c before here there.
+    subst (λ (n : ℕ). AreHad n mid_known c.kind (entries_from 0 c.segments) before.items) (sym same_size)
+    (subst (λ (k : Option PlaceMap). AreHad size k c.kind (entries_from 0 c.segments) before.items) (sym same_known)
+    (fit i c before here (ap (λ (l : List (Vec (Option Place))). slice_get l i) (sym is) ∙ there)).had)

@@ -145,3 +145,21 @@ slot_below slots store is i slot here =
     let lies = closed_within 0 store.held i slot
     (got_taken (length slots) (closed_from 0 store.held) i slot (ap (λ (l : List ℕ). slice_get l i) (sym is) ∙ here)) in
     omega (arith, lies.1)
+
+-- ---- one of them
+
+pub in_free_one : (id : ℕ) (c : Contents) (store : Store) → 1 ≤ free_slots store.held → in_free id (c ∷ []) store ≡ first_in id c store ∷ []
+in_free_one id c store some =
+    in_free_step id c [] store some ∙ ap (λ (ps : List Placed). first_in id c store ∷ ps) (none (closed_from 0 (with_sealed id c.kind c.segments store).held))
+  where
+    none : (l : List ℕ) → placed l (suc id) [] ≡ []
+    none [] = refl
+    none (s ∷ ss) = refl
+
+pub one_slot : (slots : List ℕ) (store : Store) → slots ≡ take (length slots) (closed_from 0 store.held) → (slot : ℕ) → slice_get slots 0 ≡ Some slot → 1 ≤ free_slots store.held
+    → slot ≡ first_free store.held
+one_slot slots store is slot here some =
+    let h : HeaderValue = header_of 0 Leaf [] in
+    let at : 0 + first_free store.held ≡ first_free store.held = omega arith in
+    let first = got_taken (length slots) (closed_from 0 store.held) 0 slot (ap (λ (l : List ℕ). slice_get l 0) (sym is) ∙ here) in
+    sym (same_slot (0 + first_free store.held) slot (sym (ap (λ (l : List ℕ). slice_get l 0) (closed_step 0 store.held h some)) ∙ first)) ∙ at

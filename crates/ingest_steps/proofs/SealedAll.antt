@@ -1,7 +1,8 @@
 -- What several containers of data make of a disk, in terms of the tables.
 use Rattle.ingest_steps.proofs.Prelude.{◌≡◌, ◌⊎◌, inl, inr, ℕ, suc, ◌+◌, ◌<◌, ◌≤◌, List, [], ◌∷◌, length, take, Option, Some, None, refl, sym, ◌∙◌, ap, subst, arith, AllByRecursion, slot_at, DiskView, SteppedFrom, Ending, Done, Refused, Unread, Broken, Writes, Moves, Arrives, StandsFor, OnlyReads, Known, leaves_weaker, leaves_on, Kind, Leaf, PlaceMap, Segment, Contents, segment_key, Files, Store, HasFree, free_slots, first_free, ByteSet, HasNoCollisions, IsIn, Stands, AnyKey, with_sealed, HasNewest, some_same, SameBefore, Tables, Represents, Runs, IsValidFor}
 use Rattle.base_model.specs.Known.{KnownWith}
-use Rattle.std.proofs.Common.{Bool, true, false}
+use Rattle.std.proofs.Common.{Bool, true, false, slice_get}
+use Rattle.disk_format.specs.Layout.{size_of}
 use Rattle.std.specs.Prelude.{◌&&◌, nat_le}
 use Rattle.std.proofs.lemmas.Bool.{le-leb}
 use Rattle.container_meta.specs.Format.{is_id}
@@ -24,8 +25,9 @@ use Rattle.store_state.specs.Settled.{IsSettled}
 use Rattle.store_state.specs.Tables.{OfEach}
 use Rattle.ingest_steps.specs.Offering.{AreSlotsOf, HasSlots, in_free}
 use Rattle.ingest_steps.specs.SealingAll.{AreRight, ChangesSlotsAlone, KeepsAllHeld, MayAllSeal, SameButSlotsOf, SealsData, sealing_all}
-use Rattle.ingest_steps.proofs.PlacedFree.{can_in_free, free_first, in_free_few, in_free_rise, may_place, placed_in_free, slots_on_disk_are}
+use Rattle.ingest_steps.proofs.PlacedFree.{can_in_free, free_first, in_free_few, in_free_rise, may_place, placed_in_free, slot_below, slots_on_disk_are}
 use Rattle.ingest_steps.proofs.Sealed.{free_by, same_content, same_keeps}
+use Rattle.ingest_steps.proofs.SlotFrame.{frame_of, slots_after, slots_settled}
 
 -- ---- in terms of the store
 
@@ -95,6 +97,9 @@ module _ (size : ℕ) (one : Option PlaceMap) (t : Tables) (runs : Runs size one
 
   pub slots_lie : AreSlots size slots
   slots_lie = slots_on_disk_are size slots runs.store here.first (omega (arith, runs.valid.size_is, runs.valid.many))
+
+  pub places_lie : (i slot : ℕ) → slice_get slots i ≡ Some slot → size_of (slot + 1) ≤ size
+  places_lie i slot there = omega (arith, slot_below slots runs.store here.first i slot there, runs.valid.size_is, runs.valid.many)
 
   pub id_below : (id : ℕ) → id ≡ t.held.last_id + 1 → (i : ℕ) → i < length slots → id + i ≤ LAST_ID
   id_below id next i within = omega (arith, next, within, here.many)
@@ -190,37 +195,14 @@ module _ (slots : ℕ) (taken : List ℕ) where
   slots_alone : (d c : List ℕ) → SameIn (NoSlot taken) d c → SameButSlotsOf slots taken d c
   slots_alone d c same = record { size = same.size; same = λ at count outside. same.same at count outside.0 }
 
-  same_settled : (given c : List ℕ) → SameBefore (slot_at slots) given c → SameButSlotsOf slots taken given c
-  same_settled given c same = record { size = same.size; same = λ at count outside. same.before at count outside.1 }
-
-  same_after : (given d c : List ℕ) → SameBefore (slot_at slots) given d → SameButSlotsOf slots taken d c → SameButSlotsOf slots taken given c
-  same_after given d c first same = record {
-    size = same.size ∙ first.size;
-    same = λ at count outside. same.same at count outside ∙ first.before at count outside.1;
-  }
-
   module _ (id : ℕ) (filled : List Contents) (e : Ending) (old new : DiskView) (writes : Writes (SealsAll taken id filled) (AreSealed taken id filled) e old new) where
     stepped : (given d c : List ℕ) → old.content ≡ Some given → old.images d → SealsAll taken id filled given d c → SteppedFrom (SameButSlotsOf slots taken) old c
     stepped given d c known image (inl is) = inr (d, image, slots_alone d c is.0)
     stepped given d c known image (inr is) = inr (given, old.as_read given known, slots_alone given c is.0)
 
     pub changes_slots : ChangesSlotsAlone slots taken old new
-    changes_slots = record {
-      leaves = λ given known.
-          leaves_weaker (SteppedFrom (SealsAll taken id filled given) old) (SteppedFrom (SameButSlotsOf slots taken) old) old new (λ c from. elim from [
-            | inl image ↦ inl image
-            | inr one ↦ stepped given one.0 c known one.1 one.2
-          ]) (writes.steps given known);
-      settled = λ settled given known.
-          let left = leaves_weaker (SteppedFrom (SealsAll taken id filled given) old) (SameButSlotsOf slots taken given) old new (λ c from. elim from [
-            | inl image ↦ same_settled given c (settled given known c image)
-            | inr one ↦ after given one.0 c known (settled given known) one.1 one.2
-          ]) (writes.steps given known) in
-          let now = writes.later.tells given known in
-          ((now.0, now.1, left.now now.0 (new.as_read now.0 now.1)), left);
-    }
-      where
-        after : (given d c : List ℕ) → old.content ≡ Some given → ((x : List ℕ) → old.images x → SameBefore (slot_at slots) given x) → old.images d
-            → SealsAll taken id filled given d c → SameButSlotsOf slots taken given c
-        after given d c known settled image (inl is) = same_after given d c (settled d image) (slots_alone d c is.0)
-        after given d c known settled image (inr is) = slots_alone given c is.0
+    changes_slots = frame_of slots (SameButSlotsOf slots taken) (slots_settled slots taken) (slots_after slots taken) old new writes.later (λ given known.
+        leaves_weaker (SteppedFrom (SealsAll taken id filled given) old) (SteppedFrom (SameButSlotsOf slots taken) old) old new (λ c from. elim from [
+          | inl image ↦ inl image
+          | inr one ↦ stepped given one.0 c known one.1 one.2
+        ]) (writes.steps given known))

@@ -25,6 +25,7 @@ use Rattle.store_state.specs.Settled.{IsSettled}
 use Rattle.store_state.specs.declared.tables.Tables.{Tables}
 use Rattle.store_state.specs.Tables.{Represents, Runs, OfEach}
 use Rattle.ingest_steps.specs.Offering.{in_free, offer_in}
+use Rattle.ingest_steps.specs.Sealing.{ChangesAlone}
 
 -- ---- what becomes of the bytes
 
@@ -35,13 +36,9 @@ slots_of ps = map (λ p. p.slot) ps
 abbrev pub SameButSlotsOf : ℕ → List ℕ → List ℕ → List ℕ → Type 0
 SameButSlotsOf slots taken old new = SameIn (λ at count. NoSlot taken at count × (at + count ≤ slot_at slots)) old new
 
--- Nothing changes but these slots, and what comes after all slots, whatever the disk holds.
-pub record ChangesSlotsAlone (slots : ℕ) (taken : List ℕ) (old new : DiskView) : Type 0 where
-  -- At any moment a crash leaves an image from before, or one but for these.
-  pub leaves : Known old.content (λ given. CrashLeaves (SteppedFrom (SameButSlotsOf slots taken) old) old new)
-  -- Of a disk that was settled reads give, and a crash leaves, what they gave, but for these.
-  pub settled : IsSettled slots old → Known old.content (λ given.
-      KnownWith new.content (SameButSlotsOf slots taken given) × CrashLeaves (SameButSlotsOf slots taken given) old new)
+-- nothing changes but these slots, and what comes after all slots
+abbrev pub ChangesSlotsAlone : ℕ → List ℕ → DiskView → DiskView → Type 0
+ChangesSlotsAlone slots taken old new = ChangesAlone (SameButSlotsOf slots taken) slots old new
 
 -- ---- what the disk stands for, on the way
 

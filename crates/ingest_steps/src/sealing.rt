@@ -179,7 +179,7 @@ pub fn seal_indexed<D: Disk, X: Index>(
 }
 
 // The id after the last one.
-fn next_id(tables: &Tables) -> u64
+pub(crate) fn next_id(tables: &Tables) -> u64
     requires { tables.now.held.last_id < LAST_ID }
     ensures next { result ≡ tables.now.held.last_id + 1 }
     ensures id { is_id result ≡ true }

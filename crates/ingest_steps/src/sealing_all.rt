@@ -1,5 +1,5 @@
 //! Containers of data that are sealed together: what of it needs no actor.
-ghost use Rattle.std.specs.Prelude.{◌≡◌, ◌+◌, ◌<◌, ◌≤◌, ℕ, List, Option, true, length, slice_get, Some, OnOk, IfOk, IfErr};
+ghost use Rattle.std.specs.Prelude.{◌≡◌, ◌+◌, ◌<◌, ◌≤◌, ℕ, List, Option, true, length, slice_get, None, Some, Err, OnErr, OnOk, IfOk, IfErr};
 ghost use Rattle.std.specs.List.{AllByRecursion};
 ghost use Rattle.base_model.specs.Known.{Known, KnownWith};
 ghost use Rattle.container_log.specs.Many.{AreDigests, AreSealed, AreSlots, HaveSegments, NoSlot, SealsAll, placed};
@@ -11,25 +11,29 @@ ghost use Rattle.dd_disk.specs.Moves.{step, Acts, Moves};
 ghost use Rattle.dd_disk.specs.View.{IsDurable};
 ghost use Rattle.dd_disk.specs.Writes.{Writes};
 ghost use Rattle.dd_disk.specs.Wrote.{SameIn};
-ghost use Rattle.refusals.specs.declared.refusal.Refusal.TheVariants.{DiskWrite};
+ghost use Rattle.refusals.specs.declared.refusal.Refusal.TheVariants.{DiskWrite, Memory};
 ghost use Rattle.store_model.specs.Collisions.{ByteSet, HasNoCollisions, IsIn, Stands};
 ghost use Rattle.store_model.specs.Files.{Files};
 ghost use Rattle.store_model.specs.Image.{Store};
 ghost use Rattle.store_model.specs.Slots.{last_id};
 ghost use Rattle.store_model.specs.Together.{AreLeftSo, CanPlace, IsThere, MayPlace, StandsSome, with_all};
+ghost use Rattle.store_state.specs.Indexing.{IsChangeRefusal};
+ghost use Rattle.store_state.specs.IndexingAll.{AreHadIn};
 ghost use Rattle.store_state.specs.Refused.{blames};
+ghost use Rattle.store_state.specs.Settled.{Steps};
 ghost use Rattle.store_state.specs.Tables.{Runs};
 ghost use Rattle.ingest_steps.specs.Offering.{HasSlots};
-ghost use Rattle.ingest_steps.specs.SealingAll.{AreRight, AreSizes, ChangesSlotsAlone, HaveSealed, SealsData};
+ghost use Rattle.ingest_steps.specs.SealingAll.{AreRight, AreSizes, ChangesSlotsAlone, HasPlacesOfAll, HaveSealed, SealsData, SealsPlaced};
 
-use crate::sealing::data_bytes;
+use crate::sealing::{data_bytes, next_id};
 use container_log::{seal_all, sealed_one_by_one};
-use container_meta::OpenContainer;
+use container_meta::{OpenContainer, Place};
 use dd_disk::Disk;
 use disk_format::{LAST_ID, SLOT_BYTES};
 use refusals::Refusal;
+use segment_index::Index;
 use std::alloc::{AllocError, Global};
-use store_state::{SlotCount, Tables};
+use store_state::{SlotCount, Tables, put_each};
 
 // Writes containers into slots, by two syncs, and gives the digests of their headers.
 fn write_containers<D: Disk>(
@@ -137,4 +141,90 @@ fn take_each(
         };
         tables.held.take_container(slots[i], id + i as u64, count);
     }
+}
+
+// Writes containers of data, and takes them into the tables.
+fn seal_taken<D: Disk>(
+    disk: &mut D,
+    tables: &mut Tables,
+    slots: &[u32],
+    id: u64,
+    filled: &[OpenContainer],
+    sizes: &[u32],
+    image: &mut [u8],
+    digests: &mut [[u8; 32]],
+) -> Result<(), Refusal>
+    requires state { (known : _) × Runs (D.view disk.old).size known tables.old }
+    requires slots { (offered : _) × HasSlots tables.old offered slots.now }
+    requires id { id ≡ tables.old.held.last_id + 1 }
+    requires many { (length filled.now ≡ length slots.now) × (length sizes.now ≡ length slots.now) × (length digests.old ≡ length slots.now) }
+    requires there { HaveSegments filled.now }
+    requires leaves { AllByRecursion (λ c. c.kind ≡ Leaf) filled.now }
+    requires known { AreRight id filled.now × AreSizes filled.now sizes.now }
+    requires image { length image.old ≡ SLOT_BYTES }
+    ensures ok { OnOk result ((size : ℕ) (known : Option PlaceMap) → HaveSealed tables.old size known filled.now tables.new) }
+    ensures unchanged { OnErr result (tables.new ≡ tables.old) }
+    ensures refused { IfErr result (λ refusal. refusal ≡ DiskWrite) }
+    ensures durable { OnOk result (IsDurable (D.view disk.new)) }
+    ensures disk { Acts (ending blames result) (D.view disk.old) (D.view disk.new) }
+    ensures moves { SealsData tables.old (placed slots.now id filled.now) (ending blames result) (D.view disk.old) (D.view disk.new) }
+    ensures frame { ChangesSlotsAlone tables.old.slots slots.now (D.view disk.old) (D.view disk.new) }
+    ensures same { OnOk result (Known (D.view disk.old).content (λ given. KnownWith (D.view disk.new).content
+        (SameIn (NoSlot slots.now) given))) }
+{
+    seal_data(disk, tables, slots, id, filled, image, digests)?;
+    take_each(tables, slots, id, filled, sizes, digests);
+    Ok(())
+}
+
+/// Puts the places of the segments of containers of data into the index, and writes these by two syncs under the next ids, the
+/// greatest of which is answered, to the closed slots of least number. `befores` has the places that the keys have.
+///
+/// Refusals: `Memory`, which leaves the map as it was; `Damaged`, where the index's own bytes break its form; `DiskWrite`.
+/// Each leaves the tables as they were.
+pub fn seal_indexed_all<D: Disk, X: Index>(
+    alloc: Global,
+    disk: &mut D,
+    tables: &mut Tables,
+    index: &mut X,
+    slots: &[u32],
+    filled: &[OpenContainer],
+    befores: &[Vec<Option<Place>>],
+) -> Result<u64, Refusal>
+    requires serves { X.serves index.old (D.view disk.old).size }
+    requires state { Runs (D.view disk.old).size None tables.old }
+    requires slots { (offered : _) × HasSlots tables.old offered slots.now }
+    requires many { (length filled.now ≡ length slots.now) × (length befores.now ≡ length slots.now) }
+    requires there { HaveSegments filled.now }
+    requires leaves { AllByRecursion (λ c. c.kind ≡ Leaf) filled.now }
+    requires had { AreHadIn (D.view disk.old).size (X.places index.old (D.view disk.old).content) filled.now befores.now }
+    ensures ok { IfOk result (λ id. (id ≡ tables.old.held.last_id + length filled.now)
+        × HaveSealed tables.old (D.view disk.old).size (X.places index.old (D.view disk.old).content) filled.now tables.new) }
+    ensures map { OnOk result (HasPlacesOfAll (placed slots.now (tables.old.held.last_id + 1) filled.now) (X.places index.old)
+        (X.places index.new) (D.view disk.old).content (D.view disk.new).content) }
+    ensures refused { IfErr result (IsChangeRefusal (X.places index.old (D.view disk.old).content)) }
+    ensures unchanged { OnErr result (tables.new ≡ tables.old) }
+    ensures memory { result ≡ Err Memory → X.places index.new (D.view disk.new).content ≡ X.places index.old
+        (D.view disk.old).content }
+    ensures disk { Steps tables.old.slots (ending blames result) (D.view disk.old) (D.view disk.new) }
+    ensures moves { SealsPlaced tables.old (X.places index.old (D.view disk.old).content)
+        (λ _. placed slots.now (tables.old.held.last_id + 1) filled.now) (ending blames result) (D.view disk.old) (D.view disk.new) }
+    ensures served { X.serves index.new (D.view disk.new).size }
+{
+    let id = next_id(tables);
+    let sizes = data_sizes(alloc, filled)?;
+    let mut image = vec![in alloc; 0u8; SLOT_BYTES as usize]?;
+    let mut digests = vec![in alloc; [0u8; 32]; filled.len()]?;
+    put_each(disk, index, slots, filled, befores)?;
+    seal_taken(
+        disk,
+        tables,
+        slots,
+        id,
+        filled,
+        &sizes,
+        image.as_mut_slice(),
+        digests.as_mut_slice(),
+    )?;
+    Ok(tables.held.last_id)
 }

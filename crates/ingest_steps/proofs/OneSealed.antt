@@ -72,8 +72,7 @@ module _ (id : ℕ) (c : Contents) where
       | inr step ↦ inr (step.0, step.1, alone_in slots slot step.0 x step.2)
     ]) (frame.leaves given known);
     settled = λ settled given known.
-        let was = frame.settled settled given known in
-        (
+        let was = frame.settled settled given known in (
           (was.0.0, was.0.1, alone_in slots slot given was.0.0 was.0.2),
           leaves_weaker (SameButSlotOf slots slot given) (SameButSlotsOf slots (slot ∷ []) given) old new (λ x same. alone_in slots slot given x same) was.1,
         );

@@ -73,8 +73,7 @@ module _ (S : List ℕ → Type 0) (files : Files) (distinct : HasNoCollisions S
       subst (λ (t : Store). last_id t.held ≤ p.id) sealed_is (omega (arith, last_new (header_of p.id p.kind p.segments) store.held some above)) in
       let room_left : length ps ≤ free_slots (with_placed p store).held =
       subst (λ (t : Store). length ps ≤ free_slots t.held) sealed_is (omega (arith, room, free_less (header_of p.id p.kind p.segments) store.held some)) in
-      let can_rest = can_place p.id ps (with_placed p store) first.1 ids.2 room_left in
-      (
+      let can_rest = can_place p.id ps (with_placed p store) first.1 ids.2 room_left in (
         each_on p.kind (with_placed p store) (with_all ps (with_placed p store)) left.0 new p.segments
             (all_keep ps p.id (with_placed p store) left.0 new may.1 last_is can_rest one left.3) here,
         all_newest ps p.id (with_placed p store) left.0 new may.1 last_is first.1 ids.2 room_left one left.3,
@@ -163,8 +162,7 @@ module _ (size : ℕ) (one : Option PlaceMap) (t : Tables) (runs : Runs size one
         let ids : IdsRise (last_id store.held) ps = subst (IdsRise (last_id store.held)) (sym (ps_are among store known files given keeps stands))
         (in_free_rise (last_id store.held) id filled store (above among store known files given keeps stands) right) in
         let few : length ps ≤ free_slots store.held = subst (λ (l : List Placed). length l ≤ free_slots store.held) (sym (ps_are among store known files given keeps stands))
-        (in_free_few id filled store (room among store known files given keeps stands)) in
-        (
+        (in_free_few id filled store (room among store known files given keeps stands)) in (
           all_keep (IsIn among) files distinct ps (last_id store.held) store given held place (omega arith) (can among store known files given keeps stands) stands left,
           all_newest (IsIn among) files distinct ps (last_id store.held) store given held place (omega arith) first ids few stands left,
         )

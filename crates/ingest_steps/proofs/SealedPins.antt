@@ -8,27 +8,27 @@ use Rattle.ingest_steps.specs.Pinning.{or_else}
 use Rattle.ingest_steps.specs.SealStep.{KeepsSealed, store_moment}
 use Rattle.ingest_steps.proofs.Pinned.{all_pinned, pinned_still, pins_with}
 
-pub both_none : (a b : Option (List ℕ)) → or_else a b ≡ None → (a ≡ None) × (b ≡ None)
+both_none : (a b : Option (List ℕ)) → or_else a b ≡ None → (a ≡ None) × (b ≡ None)
 both_none None b none = (refl, none)
 both_none (Some key) b none = absurd cc
 
-abbrev pub AllChildren : Kind → PinMap → List Segment → Type 0
+abbrev AllChildren : Kind → PinMap → List Segment → Type 0
 AllChildren kind pins ss = AllByRecursion (λ s. AllByRecursion (λ c. has_pin pins c.key c.pin ≡ true) (children_by kind s)) ss
 
-pub all_children : (kind : Kind) (ss : List Segment) (pins : PinMap) → first_unpinned_of kind ss pins ≡ None → AllChildren kind pins ss
+all_children : (kind : Kind) (ss : List Segment) (pins : PinMap) → first_unpinned_of kind ss pins ≡ None → AllChildren kind pins ss
 all_children kind [] pins none = tt
 all_children kind (s ∷ ss) pins none =
     let parts = both_none (first_not_in pins (children_by kind s)) (first_unpinned_of kind ss pins) none in
     (all_pinned pins (children_by kind s) parts.0, all_children kind ss pins parts.1)
 
 module _ (P : List ℕ → Type 0) (held : List (Option HeaderValue)) (image : List ℕ) (kind : Kind) where
-  pub children_still : (pins more : PinMap) (ss : List Segment)
+  children_still : (pins more : PinMap) (ss : List Segment)
       → ((cs : List KeyPin) → AllByRecursion (λ c. has_pin pins c.key c.pin ≡ true) cs → AllByRecursion (λ c. has_pin more c.key c.pin ≡ true) cs)
       → AllChildren kind pins ss → AllChildren kind more ss
   children_still pins more [] each all = tt
   children_still pins more (s ∷ ss) each all = (each (children_by kind s) all.0, children_still pins more ss each all.1)
 
-  pub pins_of_all : (ss : List Segment) (pins : PinMap) → ArePinsOf P held image pins → AllByRecursion (λ s. IsOfKind kind s) ss
+  pins_of_all : (ss : List Segment) (pins : PinMap) → ArePinsOf P held image pins → AllByRecursion (λ s. IsOfKind kind s) ss
       → AllByRecursion (λ s. HasNewest held (segment_key kind s) s.level s.bytes image) ss → AllChildren kind pins ss → AllByRecursion (λ s. P (segment_key kind s)) ss
       → ArePinsOf P held image (with_pins kind ss pins)
   pins_of_all [] pins are right newest children count = are
@@ -38,19 +38,7 @@ module _ (P : List ℕ → Type 0) (held : List (Option HeaderValue)) (image : L
       (children_still pins (finite.insert pins (segment_key kind s) (pin_by kind s)) ss
       (pinned_still P held image pins (record { kind = kind; segment = s }) are right.0 newest.0 count.0) children.1) count.1
 
-  -- what was kept is kept still
-  pub still_of_all : (ss : List Segment) (pins : PinMap) → ArePinsOf P held image pins → AllByRecursion (λ s. IsOfKind kind s) ss
-      → AllByRecursion (λ s. HasNewest held (segment_key kind s) s.level s.bytes image) ss → AllChildren kind pins ss → AllByRecursion (λ s. P (segment_key kind s)) ss
-      → (cs : List KeyPin) → AllByRecursion (λ c. has_pin pins c.key c.pin ≡ true) cs → AllByRecursion (λ c. has_pin (with_pins kind ss pins) c.key c.pin ≡ true) cs
-  still_of_all [] pins are right newest children count cs all = all
-  still_of_all (s ∷ ss) pins are right newest children count cs all =
-      still_of_all ss (finite.insert pins (segment_key kind s) (pin_by kind s))
-      (pins_with P held image pins (record { kind = kind; segment = s }) are right.0 newest.0 count.0 children.0) right.1 newest.1
-      (children_still pins (finite.insert pins (segment_key kind s) (pin_by kind s)) ss
-      (pinned_still P held image pins (record { kind = kind; segment = s }) are right.0 newest.0 count.0) children.1) count.1 cs
-      (pinned_still P held image pins (record { kind = kind; segment = s }) are right.0 newest.0 count.0 cs all)
-
-pub one_map : (a b : PlaceMap) → Some a ≡ Some b → a ≡ b
+one_map : (a b : PlaceMap) → Some a ≡ Some b → a ≡ b
 one_map a b is = cc
 
 pub keeps_sealed : (old new : DiskView) (known known_new : Option PlaceMap) (slot : ℕ) (t now_tables : Tables) (parts parts_new : List Part) (actor : ℕ) (filled : Contents)

@@ -203,13 +203,13 @@ module _ (t new : Tables) (offered : ℕ) (slots : List ℕ) (id : ℕ) (filled 
     };
     runs = λ map runs.
         on (λ (k : ℕ). Runs size (places_with_all (in_free k filled runs.store) map) new) (
-          let after = valid_all size id filled runs.store (are size runs.store map runs.represents runs.valid runs.has_free) runs.valid in
-          record {
-            store = with_all (in_free id filled runs.store) runs.store;
-            represents = whole size runs.store map runs.represents runs.valid runs.has_free;
-            valid = after.0;
-            has_free = omega (arith, after.1);
-          });
+        let after = valid_all size id filled runs.store (are size runs.store map runs.represents runs.valid runs.has_free) runs.valid in
+        record {
+          store = with_all (in_free id filled runs.store) runs.store;
+          represents = whole size runs.store map runs.represents runs.valid runs.has_free;
+          valid = after.0;
+          has_free = omega (arith, after.1);
+        });
   }
     where
       on : (P : ℕ → Type 0) → P id → P (t.held.last_id + 1)

@@ -53,8 +53,12 @@ pub fn compare_each<D: Disk, X: Index>(
     Ok(befores)
 }
 
-// Compares containers of data with what is held, all of them, and then indexes and writes them.
-pub(crate) fn seal_many<D: Disk, X: Index>(
+/// Compares containers of data with what is held, all of them, and then indexes them and writes them by two syncs, to the slots that
+/// `slots_for` answered. Answered is the greatest of their ids.
+///
+/// Refusals, container by container and entry by entry: `DiskRead`, `Corrupt`, `Clash`; then those of `seal_indexed_all`. `Damaged`
+/// comes only where the index's map isn't known.
+pub fn seal_many<D: Disk, X: Index>(
     alloc: Global,
     disk: &mut D,
     tables: &mut Tables,
@@ -89,8 +93,8 @@ pub(crate) fn seal_many<D: Disk, X: Index>(
     seal_indexed_all(alloc, disk, tables, index, slots, filled, &befores)
 }
 
-// The same of one container, of any kind.
-pub(crate) fn seal_one<D: Disk, X: Index>(
+/// The same of one container, of any kind.
+pub fn seal_one<D: Disk, X: Index>(
     alloc: Global,
     disk: &mut D,
     tables: &mut Tables,

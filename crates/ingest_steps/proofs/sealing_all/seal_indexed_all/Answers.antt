@@ -115,8 +115,7 @@ seal_taken-requires-clause-known g c =
     let slots = c.args.slots.now in
     let filled = c.args.filled.now in
     let known = g.X.Index.places c.args.index.now old.content in
-    let ps = placed slots (t.held.last_id + 1) filled in
-    (
+    let ps = placed slots (t.held.last_id + 1) filled in (
       c.in_ok-sizes.ensures.right c.next_id-id.result (λ i within.
           ids_right old.size None t c.requires.state c.requires.slots.0 slots c.requires.slots.1 c.next_id-id.result c.next_id-id.ensures.next i
           (omega (arith, within, c.requires.many.0))),

@@ -22,8 +22,11 @@ overflow_cast-count c =
 
 pub overflow_add-id : goal.overflow_add-id
 overflow_add-id c =
-    omega (arith, id_below c.requires.state.0 c.requires.state.1 c.args.tables.now c.requires.state.2 c.requires.slots.0 c.args.slots.now c.requires.slots.1 c.args.id c.requires.id c.loop-i.i
-    (omega (arith, c.loop-i-test.true)))
+    omega (
+      arith,
+      id_below c.requires.state.0 c.requires.state.1 c.args.tables.now c.requires.state.2 c.requires.slots.0 c.args.slots.now c.requires.slots.1 c.args.id c.requires.id c.loop-i.i
+          (omega (arith, c.loop-i-test.true)),
+    )
 
 pub take_container-requires-clause-slot : goal.take_container-requires-clause-slot
 take_container-requires-clause-slot c =
@@ -55,8 +58,7 @@ loop-i-preserved c =
     let also = slice_get_read filled _ i y refl (omega (arith, within, c.requires.many.0)) c.index-filled-i-in-loop-i.is in
     let same : y ≡ x = same_contents y x (sym also ∙ here) in
     let slot : ℕ = get_or slots i 0 in
-    let h = header_of (c.args.id + i) x.kind x.segments in
-    (
+    let h = header_of (c.args.id + i) x.kind x.segments in (
       ap (λ (t : Tables). (let u : Tables = record t { held = c.take_container.new.self } in u)) inv.0,
       omega (arith, c.take_container.ensures.last, inv.1, c.requires.id),
       λ store is. subst (λ (s : Store). RepresentsSlots s.held c.take_container.new.self)

@@ -1,5 +1,5 @@
 -- Several containers that are compared with what is held, one after the other.
-use Rattle.ingest_steps.proofs.Prelude.{◌≡◌, ℕ, suc, ◌+◌, ◌<◌, List, [], ◌∷◌, ◌++◌, length, take, Option, Some, None, refl, sym, ◌∙◌, ap, subst, arith, inl, inr, AllByRecursion, DiskView, IsLater, OnlyReads, Shows, Place, PlaceMap, Contents, entries_from, Refusal, Memory, WasCompared}
+use Rattle.ingest_steps.proofs.Prelude.{◌≡◌, ℕ, suc, List, [], ◌∷◌, ◌++◌, length, take, Option, Some, refl, sym, ◌∙◌, ap, subst, arith, inl, inr, DiskView, IsLater, OnlyReads, Shows, Place, PlaceMap, Contents, entries_from, Refusal, Memory}
 use Rattle.std.proofs.Common.{zero, slice_get, take_all}
 use Rattle.store_state.specs.Indexing.{AreHad}
 use Rattle.store_state.specs.IndexingAll.{AreHadIn}
@@ -8,7 +8,7 @@ use Rattle.dd_disk.proofs.Shows.{since, until}
 use Rattle.refusals.specs.declared.refusal.Refusal.TheVariants.{DiskRead, Damaged}
 use Rattle.sha2.specs.Sha256.{sha256}
 use Rattle.container_meta.specs.Segments.{segment_at}
-use Rattle.store_state.specs.Comparing.{AllFit, FitSoFar, IsAllRefusal, IsFirstUnlike, IsUnlike}
+use Rattle.store_state.specs.Comparing.{FitSoFar, IsAllRefusal, IsFirstUnlike}
 use Rattle.store_state.proofs.Compared.{same_since}
 use Rattle.ingest_steps.specs.Offering.{FitIn, IsFirstUnlikeIn, WereCompared}
 use Rattle.ingest_steps.proofs.PinnedAll.{got_push}
@@ -98,7 +98,8 @@ module _ (size mid_size : ℕ) (known mid_known : Option PlaceMap) (old mid new 
   of_next refusal has = first_unlike refusal has
 
 -- all were
-pub whole_compared : (size : ℕ) (known : Option PlaceMap) (old mid new : DiskView) (filled : List Contents) (befores : List (Vec (Option Place))) → OnlyReads old mid → IsLater mid new
+pub whole_compared : (size : ℕ) (known : Option PlaceMap) (old mid new : DiskView) (filled : List Contents) (befores : List (Vec (Option Place))) → OnlyReads old mid
+    → IsLater mid new
     → FitIn size known (Shows old mid) filled befores → length befores ≡ length filled → WereCompared size known (Shows old new) filled
 whole_compared size known old mid new filled befores reads later fit many =
     subst (WereCompared size known (Shows old new)) (take_all (length filled) filled (omega arith))

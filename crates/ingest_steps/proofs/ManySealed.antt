@@ -1,10 +1,10 @@
 -- Containers of data that are sealed after they were compared.
-use Rattle.ingest_steps.proofs.Prelude.{◌≡◌, ℕ, ◌+◌, List, length, Option, Some, Result, Ok, Err, refl, sym, ◌∙◌, ap, subst, DiskView, OnlyReads, Shows, PlaceMap, Contents, Refusal, Memory, DiskWrite, Tables, IsSealRefusal}
+use Rattle.ingest_steps.proofs.Prelude.{◌≡◌, ℕ, ◌+◌, List, length, Option, Result, Ok, Err, sym, ◌∙◌, ap, subst, PlaceMap, Contents, Refusal, Memory, DiskWrite, Tables, IsSealRefusal}
 use Rattle.std.proofs.Common.{IfOk}
 use Rattle.refusals.specs.declared.refusal.Refusal.TheVariants.{DiskRead, Damaged}
 use Rattle.store_model.specs.Together.{Placed}
 use Rattle.store_state.specs.Comparing.{IsAllRefusal}
-use Rattle.ingest_steps.specs.Offering.{AreCompared, IsFirstUnlikeIn, WereCompared}
+use Rattle.ingest_steps.specs.Offering.{AreCompared, IsFirstUnlikeIn}
 use Rattle.ingest_steps.specs.SealingAll.{HasPlacesOfAll, HaveSealed}
 
 pub places_before_all : (ps : List Placed) (before now after : Option (List ℕ) → Option PlaceMap) (old mid new : Option (List ℕ)) → mid ≡ old → now mid ≡ before old

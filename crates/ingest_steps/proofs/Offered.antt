@@ -1,5 +1,5 @@
 -- The slots of containers that are offered together.
-use Rattle.ingest_steps.proofs.Prelude.{◌≡◌, ℕ, suc, ◌+◌, ◌-◌, ◌<◌, ◌≤◌, List, [], ◌∷◌, length, take, Option, Some, None, refl, sym, ◌∙◌, ap, subst, arith, HeaderValue, Store, free_slots, Refusal, Memory, Tables}
+use Rattle.ingest_steps.proofs.Prelude.{◌≡◌, ℕ, suc, ◌-◌, ◌<◌, ◌≤◌, List, [], ◌∷◌, length, take, Option, Some, None, refl, sym, ◌∙◌, ap, arith, HeaderValue, Store, free_slots, Refusal, Memory, Tables}
 use Rattle.std.proofs.Common.{length-take-le}
 use Rattle.std.specs.Prelude.{min}
 use Rattle.disk_format.specs.declared.numbers.TheConstants.{RESERVE, LAST_ID}

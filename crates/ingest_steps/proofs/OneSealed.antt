@@ -1,19 +1,16 @@
 -- One container that is sealed, as a list of one.
-use Rattle.ingest_steps.proofs.Prelude.{◌≡◌, ◌⊎◌, inl, inr, ℕ, suc, ◌+◌, ◌<◌, ◌≤◌, List, [], ◌∷◌, length, take, Option, Some, None, true, refl, sym, ◌∙◌, ap, subst, arith, slot_at, DiskView, SteppedFrom, Ending, Done, Refused, Unread, Broken, Arrives, Known, leaves_weaker, Contents, Entry, entries_from, PlaceMap, HasKey, Files, Store, ByteSet, IsIn, Stands, first_free, free_slots, with_entries, with_sealed, Refusal, Memory, DiskWrite, Tables, Represents, Runs, IsSlotOf, HasSlot, SameButSlotOf, KeepsHeld, SealsCompared, HasPlacesOf, WasCompared, IsCompared, IsSealRefusal, places_with, sealing}
+use Rattle.ingest_steps.proofs.Prelude.{◌≡◌, inl, inr, ℕ, ◌+◌, ◌≤◌, List, [], ◌∷◌, length, Option, Some, None, true, refl, sym, ◌∙◌, ap, subst, arith, DiskView, SteppedFrom, Ending, Done, Refused, Unread, Broken, Arrives, leaves_weaker, Contents, PlaceMap, HasKey, Files, Store, ByteSet, IsIn, Stands, first_free, free_slots, with_sealed, Refusal, Memory, DiskWrite, Tables, Represents, Runs, HasSlot, SameButSlotOf, KeepsHeld, SealsCompared, HasPlacesOf, WasCompared, IsCompared, IsSealRefusal, places_with}
 use Rattle.std.proofs.Common.{slice_get, get_or, Result, Ok, Err, IfOk}
 use Rattle.std.proofs.lemmas.Option.{slice_get-get_or}
-use Rattle.std.specs.Prelude.{option_map}
-use Rattle.disk_format.specs.declared.numbers.TheConstants.{LAST_ID, SLOT_BYTES, RESERVE}
-use Rattle.container_log.specs.Many.{NoSlot, placed}
+use Rattle.container_log.specs.Many.{placed}
 use Rattle.dd_disk.specs.Moves.{Moved}
 use Rattle.ingest_steps.proofs.Sealed.{slot_in}
 use Rattle.refusals.specs.declared.refusal.Refusal.TheVariants.{DiskRead, Damaged}
 use Rattle.store_model.specs.Together.{Placed, StandsSome, with_all}
 use Rattle.store_model.specs.Steps.{CanSeal}
-use Rattle.store_state.specs.Tables.{OfEach, closed_from}
-use Rattle.ingest_steps.specs.Offering.{AreCompared, AreSlotsOf, HasSlots, IsFirstUnlikeIn, WereCompared, in_free}
-use Rattle.ingest_steps.specs.Sealing.{ChangesAlone, HasSealed, HasSlotBeside, StandsSealed, sealing_compared}
-use Rattle.ingest_steps.specs.SealingAll.{CanSealAll, HasPlacesOfAll, MayAllSeal, HaveSealed, KeepsAllHeld, SameButSlotsOf, SealsPlaced, places_with_all, sealing_all, slots_of}
+use Rattle.ingest_steps.specs.Offering.{AreCompared, HasSlots, WereCompared, in_free}
+use Rattle.ingest_steps.specs.Sealing.{ChangesAlone, HasSealed, sealing_compared}
+use Rattle.ingest_steps.specs.SealingAll.{HasPlacesOfAll, MayAllSeal, HaveSealed, KeepsAllHeld, SameButSlotsOf, SealsPlaced, places_with_all, sealing_all, slots_of}
 use Rattle.ingest_steps.proofs.PlacedFree.{first_in, in_free_one, slot_below, one_slot}
 
 -- ---- its slot
@@ -175,7 +172,8 @@ pub one_places : (c : Contents) (slot id : ℕ) (before after : Option (List ℕ
     → HasPlacesOfAll (placed (slot ∷ []) id (c ∷ [])) before after old new
 one_places c slot id before after old new has = record { told = has.told; untold = has.untold }
 
-pub one_sealed : (result : Result ℕ Refusal) (t new : Tables) (size : ℕ) (known : Option PlaceMap) (shown : (List ℕ → Type 0) → Type 0) (slot : ℕ) (c : Contents) (filled : List Contents)
+pub one_sealed : (result : Result ℕ Refusal) (t new : Tables) (size : ℕ) (known : Option PlaceMap) (shown : (List ℕ → Type 0)
+    → Type 0) (slot : ℕ) (c : Contents) (filled : List Contents)
     → filled ≡ c ∷ [] → HasSlot t slot → IfOk result (λ id. HasSealed t size known slot c new id × WasCompared size known shown c)
     → IfOk result (λ id. (id ≡ t.held.last_id + length filled) × HaveSealed t size known filled new × WereCompared size known shown filled)
 one_sealed (Ok id) t new size known shown slot c filled is has sealed =

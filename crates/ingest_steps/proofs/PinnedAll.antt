@@ -1,5 +1,5 @@
 -- Pins of several containers, one after the other, and taken back.
-use Rattle.ingest_steps.proofs.Prelude.{◌≡◌, ◌⊎◌, inl, inr, ℕ, suc, ◌+◌, ◌<◌, List, [], ◌∷◌, ◌++◌, length, take, Option, Some, None, refl, sym, ◌∙◌, ap, subst, arith, AllByRecursion, IfSome, Contents, Pin, PinMap, IsPin, WereHad, with_pins}
+use Rattle.ingest_steps.proofs.Prelude.{◌≡◌, ◌⊎◌, inl, inr, ℕ, suc, List, [], ◌∷◌, ◌++◌, length, take, Option, Some, refl, sym, ◌∙◌, ap, subst, AllByRecursion, IfSome, Contents, Pin, PinMap, IsPin, WereHad, with_pins}
 use Rattle.std.proofs.Common.{zero, slice_get}
 use Rattle.std.specs.Global.{Vec}
 use Rattle.ingest_steps.specs.Offering.{IsHadOf, WereHadIn, with_pins_of}

@@ -1,12 +1,12 @@
 -- Containers in the closed slots of least number, one after the other.
-use Rattle.ingest_steps.proofs.Prelude.{◌≡◌, ℕ, suc, ◌+◌, ◌<◌, ◌≤◌, List, [], ◌∷◌, length, take, Option, Some, None, refl, sym, ◌∙◌, ap, subst, arith, AllByRecursion, Kind, Leaf, Contents, HeaderValue, header_of, Store, free_slots, first_free}
+use Rattle.ingest_steps.proofs.Prelude.{◌≡◌, ℕ, suc, ◌+◌, ◌<◌, ◌≤◌, List, [], ◌∷◌, length, take, Option, Some, None, refl, sym, ◌∙◌, ap, subst, arith, AllByRecursion, Leaf, Contents, HeaderValue, header_of, Store, free_slots, first_free}
 use Rattle.std.proofs.Common.{zero, slice_get}
 use Rattle.container_meta.specs.Spelling.{IsHeader}
 use Rattle.disk_format.specs.Layout.{size_of}
 use Rattle.container_log.specs.Many.{AreSlots, placed}
-use Rattle.store_model.specs.Slots.{with_slot, last_id}
+use Rattle.store_model.specs.Slots.{with_slot}
 use Rattle.store_model.specs.Steps.{with_sealed}
-use Rattle.store_model.specs.Together.{Placed, AreFirstFree, CanPlace, IdsRise, MayPlace, with_placed}
+use Rattle.store_model.specs.Together.{Placed, AreFirstFree, CanPlace, IdsRise, MayPlace}
 use Rattle.store_model.proofs.Filled.{free_less}
 use Rattle.store_model.proofs.Together.{can_place}
 use Rattle.store_state.specs.Tables.{closed_from}
@@ -131,7 +131,8 @@ got_taken (suc n) [] i x here = absurd cc
 got_taken (suc n) (y ∷ ys) zero x here = here
 got_taken (suc n) (y ∷ ys) (suc i) x here = got_taken n ys i x here
 
-pub slots_on_disk_are : (size : ℕ) (slots : List ℕ) (store : Store) → slots ≡ take (length slots) (closed_from 0 store.held) → size_of (length store.held) ≤ size → AreSlots size slots
+pub slots_on_disk_are : (size : ℕ) (slots : List ℕ) (store : Store) → slots ≡ take (length slots) (closed_from 0 store.held) → size_of (length store.held) ≤ size
+    → AreSlots size slots
 slots_on_disk_are size slots store is long = record {
   within = λ i slot here. let lies = closed_within 0 store.held i slot (from i slot here) in omega (arith, lies.1, long);
   rise = λ i j low high before here there. closed_rise 0 store.held i j low high before (from i low here) (from j high there);

@@ -1,5 +1,5 @@
 -- Containers that are sealed together after other calls, or not at all.
-use Rattle.ingest_steps.proofs.Prelude.{◌≡◌, ◌≤◌, inl, inr, ℕ, suc, ◌+◌, ◌<◌, List, [], ◌∷◌, length, take, Option, Some, None, Result, Ok, Err, refl, sym, ◌∙◌, ap, subst, arith, slot_at, DiskView, IsLater, OnlyReads, SteppedFrom, Ending, Blame, NoCall, ReadCall, WriteCall, Done, Refused, Unread, Broken, ending, ending_of, Both, Arrives, StandsFor, Shows, Known, entries_from, with_entries, leaves_on, leaves_weaker, reads_leave, stands_reads, IsValidFor, counts_on, later_on, Contents, PlaceMap, HasKey, SameBefore, Changes, Files, Store, ByteSet, IsIn, Stands, AnyKey, HasNewest, Refusal, Memory, Steps, Tables, Represents, Runs}
+use Rattle.ingest_steps.proofs.Prelude.{◌≡◌, ◌≤◌, inl, inr, ℕ, suc, ◌+◌, List, [], ◌∷◌, length, take, Option, Some, None, Result, Ok, Err, refl, sym, ◌∙◌, ap, subst, arith, slot_at, DiskView, IsLater, OnlyReads, SteppedFrom, Ending, Blame, NoCall, ReadCall, WriteCall, Done, Refused, Unread, Broken, ending, ending_of, Both, Arrives, StandsFor, Known, entries_from, with_entries, leaves_on, leaves_weaker, reads_leave, stands_reads, IsValidFor, Contents, PlaceMap, HasKey, SameBefore, Changes, Files, Store, IsIn, Stands, AnyKey, HasNewest, Refusal, Memory, Steps, Tables, Runs}
 use Rattle.std.proofs.Common.{IsErrAnd}
 use Rattle.base_model.specs.Bytes.{range}
 use Rattle.dd_disk.specs.Ending.{Reads}
@@ -9,13 +9,11 @@ use Rattle.dd_disk.specs.Wrote.{SameIn}
 use Rattle.disk_format.specs.Layout.{size_of}
 use Rattle.segment_index.specs.Changes.{SameFrom}
 use Rattle.store_state.specs.IndexingAll.{with_contents}
-use Rattle.store_model.specs.Steps.{KeepsCopies}
-use Rattle.store_model.specs.Together.{Placed, StandsSome, with_all}
+use Rattle.store_model.specs.Together.{Placed, StandsSome}
 use Rattle.store_model.proofs.FramedTrees.{newest_framed}
 use Rattle.store_state.specs.Refused.{blames}
-use Rattle.store_state.proofs.Changed.{changes_none}
-use Rattle.ingest_steps.specs.Offering.{AreSlotsOf, HasSlots, in_free, offer_in}
-use Rattle.ingest_steps.specs.SealingAll.{ChangesSlotsAlone, KeepsAllHeld, MayAllSeal, SameButSlotsOf, SealsData, SealsOffer, SealsPlaced, places_with_all, sealing_all, slots_of}
+use Rattle.ingest_steps.specs.Offering.{HasSlots, in_free, offer_in}
+use Rattle.ingest_steps.specs.SealingAll.{ChangesSlotsAlone, KeepsAllHeld, MayAllSeal, SameButSlotsOf, SealsData, SealsPlaced, places_with_all, sealing_all, slots_of}
 use Rattle.ingest_steps.proofs.PlacedFree.{placed_in_free, slot_below}
 use Rattle.ingest_steps.proofs.Sealed.{same_content, same_keeps}
 use Rattle.ingest_steps.proofs.SealedAll.{of_standing}
@@ -117,7 +115,8 @@ module _ (t : Tables) (known : Option PlaceMap) (placed_in : Store → List Plac
 
   -- ---- it was, and then the containers were written
 
-  module _ (e : Ending) (old mid new : DiskView) (changes : Changes (slot_at t.slots) Done old mid) (later : IsLater mid new) (seals : SealsPlaced t known placed_in e mid new) where
+  module _ (e : Ending) (old mid new : DiskView) (changes : Changes (slot_at t.slots) Done old mid) (later : IsLater mid new)
+      (seals : SealsPlaced t known placed_in e mid new) where
     arrives_on : (S : List ℕ → Type 0) (store : Store) (files : Files) (x : Ending) → StandsFor (Stands S store files) mid
         → Arrives (sealing_all S (placed_in store) store files) x mid new → Arrives (sealing_all S (placed_in store) store files) x old new
     arrives_on S store files Done stands arrives = arrives
@@ -164,7 +163,8 @@ module _ (t : Tables) (known : Option PlaceMap) (placed_in : Store → List Plac
 
 -- ---- data
 
-any_held : (map : PlaceMap) (ps : List Placed) (store : Store) (given held : List ℕ) (e : Ending) → KeepsAllHeld AnyKey e ps store given held → KeepsAllHeld (HasKey map) e ps store given held
+any_held : (map : PlaceMap) (ps : List Placed) (store : Store) (given held : List ℕ) (e : Ending) → KeepsAllHeld AnyKey e ps store given held
+    → KeepsAllHeld (HasKey map) e ps store given held
 any_held map ps store given held Done keep = (λ key level bytes counts has. keep.0 key level bytes tt has, keep.1)
 any_held map ps store given held Refused keep = keep
 any_held map ps store given held Unread keep = keep
@@ -192,7 +192,8 @@ module _ (size : ℕ) (one : Option PlaceMap) (t : Tables) (runs : Runs size one
   placed_as = record {
     frame = record {
       store_has = λ store is valid free.
-          subst (λ (ps : List Placed). ChangesSlotsAlone t.slots (slots_of ps) old new) ((same old.size known).store_has store is valid free) (seals.frame.store_has store is valid free);
+          subst (λ (ps : List Placed). ChangesSlotsAlone t.slots (slots_of ps) old new) ((same old.size known).store_has store is valid free)
+          (seals.frame.store_has store is valid free);
     };
     moves = λ among store files map known_is is indexed distinct may stands.
         let given = stands.known.0 in
@@ -254,7 +255,8 @@ map_on_all places owned_from stay serves owns size known t offered slots has run
     ap places after.1
     ∙ stay then.0 after.0 (record {
       size = after.2.size;
-      after = λ p n above. after.2.same p n (λ i slot there. inr (omega (arith, above, owned, slot_below slots runs.store here.first i slot there, runs.valid.many, runs.represents.slots_are)));
+      after = λ p n above. after.2.same p n (λ i slot there. inr (omega
+          (arith, above, owned, slot_below slots runs.store here.first i slot there, runs.valid.many, runs.represents.slots_are)));
     })
     ∙ ap places (sym then.1)
 

@@ -1,19 +1,18 @@
 -- What several containers of data make of a disk, in terms of the tables.
-use Rattle.ingest_steps.proofs.Prelude.{◌≡◌, ◌⊎◌, inl, inr, ℕ, suc, ◌+◌, ◌<◌, ◌≤◌, List, [], ◌∷◌, length, take, Option, Some, None, refl, sym, ◌∙◌, ap, subst, arith, AllByRecursion, slot_at, DiskView, SteppedFrom, Ending, Done, Refused, Unread, Broken, Writes, Moves, Arrives, StandsFor, OnlyReads, Known, leaves_weaker, leaves_on, Kind, Leaf, PlaceMap, Segment, Contents, segment_key, Files, Store, HasFree, free_slots, first_free, ByteSet, HasNoCollisions, IsIn, Stands, AnyKey, with_sealed, HasNewest, some_same, SameBefore, Tables, Represents, Runs, IsValidFor}
-use Rattle.base_model.specs.Known.{KnownWith}
+use Rattle.ingest_steps.proofs.Prelude.{◌≡◌, inl, inr, ℕ, ◌+◌, ◌<◌, ◌≤◌, List, [], ◌∷◌, length, Option, Some, refl, sym, ◌∙◌, ap, subst, arith, AllByRecursion, DiskView, SteppedFrom, Ending, Done, Refused, Unread, Broken, Writes, Moves, Arrives, leaves_weaker, Kind, Leaf, PlaceMap, Segment, Contents, segment_key, Files, Store, free_slots, first_free, ByteSet, HasNoCollisions, IsIn, Stands, AnyKey, with_sealed, HasNewest, Tables, Represents, Runs}
 use Rattle.std.proofs.Common.{Bool, true, false, slice_get}
 use Rattle.disk_format.specs.Layout.{size_of}
 use Rattle.std.specs.Prelude.{◌&&◌, nat_le}
 use Rattle.std.proofs.lemmas.Bool.{le-leb}
 use Rattle.container_meta.specs.Format.{is_id}
 use Rattle.disk_format.specs.declared.numbers.TheConstants.{LAST_ID}
-use Rattle.dd_disk.specs.Moves.{step, Moved}
+use Rattle.dd_disk.specs.Moves.{step}
 use Rattle.dd_disk.specs.Writes.{Written}
 use Rattle.dd_disk.specs.Wrote.{SameIn}
 use Rattle.dd_disk.proofs.Moves.{stands_content}
 use Rattle.container_log.specs.Many.{AreSlots, AreSealed, NoSlot, SealsAll, placed}
 use Rattle.store_model.specs.Slots.{HoldsContainer, last_id}
-use Rattle.store_model.specs.Steps.{KeepsCopies, MaySeal}
+use Rattle.store_model.specs.Steps.{KeepsCopies}
 use Rattle.store_model.specs.Together.{Placed, AreFirstFree, AreLeftSo, CanPlace, IdsRise, IsLeft, IsThere, MayPlace, StandsSome, with_all, with_placed, with_some}
 use Rattle.store_model.proofs.Filled.{free_less, last_new}
 use Rattle.store_model.proofs.Once.{store_once}
@@ -21,10 +20,9 @@ use Rattle.store_model.proofs.SealedTrees.{newest_sealed}
 use Rattle.store_model.proofs.Sound.{sound_of_right}
 use Rattle.store_model.proofs.Together.{all_sealed, can_place, some_sealed}
 use Rattle.container_meta.specs.Spelling.{header_of}
-use Rattle.store_state.specs.Settled.{IsSettled}
 use Rattle.store_state.specs.Tables.{OfEach}
 use Rattle.ingest_steps.specs.Offering.{AreSlotsOf, HasSlots, in_free}
-use Rattle.ingest_steps.specs.SealingAll.{AreRight, ChangesSlotsAlone, KeepsAllHeld, MayAllSeal, SameButSlotsOf, SealsData, sealing_all}
+use Rattle.ingest_steps.specs.SealingAll.{AreRight, ChangesSlotsAlone, KeepsAllHeld, MayAllSeal, SameButSlotsOf, SealsData}
 use Rattle.ingest_steps.proofs.PlacedFree.{can_in_free, free_first, in_free_few, in_free_rise, may_place, placed_in_free, slot_below, slots_on_disk_are}
 use Rattle.ingest_steps.proofs.Sealed.{free_by, same_content, same_keeps}
 use Rattle.ingest_steps.proofs.SlotFrame.{frame_of, slots_after, slots_settled}
@@ -111,7 +109,8 @@ module _ (size : ℕ) (one : Option PlaceMap) (t : Tables) (runs : Runs size one
       both true b first second = second
       both false b first second = absurd cc
 
-module _ (size : ℕ) (one : Option PlaceMap) (t : Tables) (runs : Runs size one t) (offered : ℕ) (slots : List ℕ) (has : HasSlots t offered slots) (id : ℕ) (next : id ≡ t.held.last_id + 1)
+module _ (size : ℕ) (one : Option PlaceMap) (t : Tables) (runs : Runs size one t) (offered : ℕ) (slots : List ℕ) (has : HasSlots t offered slots) (id : ℕ)
+    (next : id ≡ t.held.last_id + 1)
     (filled : List Contents) (many : length filled ≡ length slots) (leaves : AllByRecursion (λ c. c.kind ≡ Leaf) filled) (right : AreRight id filled) where
   abbrev ps : List Placed
   ps = placed slots id filled

@@ -101,7 +101,8 @@ first_reads known t old new reads = record {
 pub first_changed : (known : Option PlaceMap) (t : Tables) (e : Ending) (old new : DiskView) → Changes (slot_at t.slots) e old new → ChangesFirstFree known t old new
 first_changed known t e old new changes = record {
   store_has = λ store is valid free. let within = first_within t store known old.size is valid free in
-      frame_changed t.slots (SameButSlotOf t.slots (first_free store.held)) (slot_settled t.slots (first_free store.held) within) (slot_after t.slots (first_free store.held) within)
+      frame_changed t.slots (SameButSlotOf t.slots (first_free store.held)) (slot_settled t.slots (first_free store.held) within) (slot_after t.slots
+      (first_free store.held) within)
       e old new changes;
 }
 

@@ -1,5 +1,5 @@
 -- What several containers make of the tables.
-use Rattle.ingest_steps.proofs.Prelude.{◌≡◌, ℕ, suc, ◌+◌, ◌<◌, ◌≤◌, List, [], ◌∷◌, length, take, Option, Some, None, refl, sym, ◌∙◌, ap, subst, arith, Contents, Entry, entries_from, HeaderValue, header_of, KnownMap, PlaceMap, Store, IsValidFor, HasFree, IsPartialIndexOf, free_slots, first_free, with_entries, with_sealed, CanHold, some_same, Tables, Represents, Runs, as_many}
+use Rattle.ingest_steps.proofs.Prelude.{◌≡◌, ℕ, suc, ◌+◌, ◌<◌, ◌≤◌, List, [], ◌∷◌, length, take, Option, Some, None, refl, sym, ◌∙◌, ap, subst, arith, Contents, entries_from, HeaderValue, header_of, KnownMap, PlaceMap, Store, IsValidFor, HasFree, IsPartialIndexOf, free_slots, first_free, with_entries, with_sealed, CanHold, some_same, Tables, Represents, Runs, as_many}
 use Rattle.std.proofs.Common.{◌++◌, zero, slice_get, get_or, true, inl, inr}
 use Rattle.std.proofs.lemmas.List.{length-map}
 use Rattle.container_meta.specs.Format.{is_id}
@@ -15,8 +15,8 @@ use Rattle.store_model.specs.Slots.{last_id}
 use Rattle.store_model.specs.Together.{Placed, with_all, with_placed}
 use Rattle.store_model.proofs.Filled.{last_new, length-with_slot}
 use Rattle.store_model.proofs.IndexSize.{partial_sealed}
-use Rattle.store_model.proofs.Valid.{free_sealed, valid_sealed}
-use Rattle.store_state.specs.Tables.{OfEach, RepresentsSlots, closed_from, count_of}
+use Rattle.store_model.proofs.Valid.{valid_sealed}
+use Rattle.store_state.specs.Tables.{RepresentsSlots, closed_from, count_of}
 use Rattle.ingest_steps.specs.Offering.{HasSlots, in_free}
 use Rattle.ingest_steps.specs.SealingAll.{AreRight, CanSealAll, HaveSealed, places_with_all}
 use Rattle.ingest_steps.proofs.PlacedFree.{first_in, fewer_left, in_free_step, placed_in_free, right_first, right_rest}

@@ -19,9 +19,9 @@ use Rattle.ingest_steps.specs.Offering.{HasSlots, MayKeepAll, WereCompared, offe
 use Rattle.ingest_steps.specs.SealingAll.{HasPlacesOfAll, HaveSealed, MayAllSeal}
 use Rattle.ingest_steps.specs.SealStep.{StoreMoment}
 
--- Of the containers that were offered the first, as many as there is room for, are sealed, and their count and the greatest of their ids are
--- answered. They were compared with what is held. They stand in the closed slots of least number, their places are in the map, and the actor
--- keeps their segments, too.
+-- Of the containers that were offered the first, as many as there is room for, are sealed, and their count and the greatest of their ids
+-- are answered. They were compared with what is held. They stand in the closed slots of least number, their places are in the map, and the
+-- actor keeps their segments, too.
 pub record AreSealedFor (old new : StoreMoment) (actor : ℕ) (filled : List Contents) (before after : Option (List ℕ) → Option PlaceMap)
     (answer : SealedTogether) : Type 0 where
   pub may : MayKeepAll (part_of old.parts actor) filled

@@ -1,4 +1,5 @@
--- Several containers that are offered together: how many of them are sealed, in which slots, and why none is (docs/MODEL.md, 'Claims and seals').
+-- Several containers that are offered together: how many of them are sealed, in which slots, and why none is (docs/MODEL.md, 'Claims and
+-- seals').
 use Rattle.std.specs.Prelude.{◌≡◌, ℕ, ◌+◌, ◌-◌, ◌≤◌, min, List, [], ◌∷◌, length, take, slice_get, Option, Some, None, IfSome}
 use Rattle.std.specs.Global.{Vec}
 use Rattle.std.specs.List.{AllByRecursion}
@@ -113,7 +114,8 @@ FitIn size known shown filled befores =
     → FitSoFar size known shown c.kind c.segments before.items
 
 -- the first segment, of the first container that has one, of which another copy is held: all before it were compared, and fit
-pub record IsFirstUnlikeIn (size : ℕ) (known : Option PlaceMap) (shown : (List ℕ → Type 0) → Type 0) (filled : List Contents) (refusal : Refusal)
+pub record IsFirstUnlikeIn (size : ℕ) (known : Option PlaceMap) (shown : (List ℕ → Type 0)
+    → Type 0) (filled : List Contents) (refusal : Refusal)
     : Type 0 where
   pub number : ℕ
   pub contents : Contents

@@ -1,9 +1,9 @@
 -- What becomes of the disk, the index and the tables where several containers are sealed together (docs/MODEL.md, 'Claims and seals').
 use Rattle.std.specs.Prelude.{◌≡◌, ℕ, suc, ◌+◌, ◌≤◌, List, [], ◌∷◌, length, map, slice_get, get_or, Option, Some, None, option_map}
 use Rattle.std.specs.List.{AllByRecursion}
-use Rattle.base_model.specs.Known.{Known, KnownWith}
+use Rattle.base_model.specs.Known.{Known}
 use Rattle.disk_format.specs.Layout.{slot_at}
-use Rattle.dd_disk.specs.View.{DiskView, CrashLeaves, SteppedFrom}
+use Rattle.dd_disk.specs.View.{DiskView}
 use Rattle.dd_disk.specs.Ending.{Ending, Done, Refused, Unread, Broken}
 use Rattle.dd_disk.specs.Moves.{Way, Moves}
 use Rattle.dd_disk.specs.Wrote.{SameIn}
@@ -21,7 +21,6 @@ use Rattle.store_model.specs.Steps.{AnyKey, CanSeal, MaySeal, KeepsCopies, with_
 use Rattle.store_model.specs.Together.{Placed, StandsSome, with_all}
 use Rattle.store_model.specs.Trees.{HasNewest}
 use Rattle.store_state.specs.Invariant.{IndexesFiles}
-use Rattle.store_state.specs.Settled.{IsSettled}
 use Rattle.store_state.specs.declared.tables.Tables.{Tables}
 use Rattle.store_state.specs.Tables.{Represents, Runs, OfEach}
 use Rattle.ingest_steps.specs.Offering.{in_free, offer_in}
@@ -56,12 +55,13 @@ sealing_all S ps store files = record {
 abbrev pub MayAllSeal : (List ℕ → Type 0) → List Placed → Type 0
 MayAllSeal S ps = AllByRecursion (λ p. AllByRecursion (MaySeal S p.kind) p.segments) ps
 
--- What becomes of what the content held: where the containers were written the newest copy of each key of which P holds goes on, and that of
--- each of their segments is the segment; where they were refused each goes on.
+-- What becomes of what the content held: where the containers were written the newest copy of each key of which P holds goes on, and that
+-- of each of their segments is the segment; where they were refused each goes on.
 abbrev pub KeepsAllHeld : (List ℕ → Type 0) → Ending → List Placed → Store → List ℕ → List ℕ → Type 0
 KeepsAllHeld P Done ps store given new =
     KeepsCopies P store given (with_all ps store) new
-    × AllByRecursion (λ p. AllByRecursion (λ s. HasNewest (with_all ps store).held (segment_key p.kind s) s.level s.bytes new) p.segments) ps
+    × AllByRecursion (λ p. AllByRecursion (λ s. HasNewest (with_all ps store).held
+    (segment_key p.kind s) s.level s.bytes new) p.segments) ps
 KeepsAllHeld P Refused ps store given new = KeepsCopies AnyKey store given store new
 KeepsAllHeld P Unread ps store given new = KeepsCopies AnyKey store given store new
 KeepsAllHeld P Broken ps store given new = Unit {0}
@@ -116,9 +116,9 @@ abbrev pub CanSealAll : ℕ → List Contents → Store → Type 0
 CanSealAll id [] store = Unit {0}
 CanSealAll id (c ∷ cs) store = CanSeal id c.kind c.segments store × CanSealAll (suc id) cs (with_sealed id c.kind c.segments store)
 
--- The tables are those of before with these containers more, under the next ids: of each store that they and the map of the index were those
--- of, they are those of the store with them. With whatever map they were those of some store, also with none, they are so with that map and
--- the places of the containers.
+-- The tables are those of before with these containers more, under the next ids: of each store that they and the map of the index were
+-- those of, they are those of the store with them. With whatever map they were those of some store, also with none, they are so with
+-- that map and the places of the containers.
 pub record HaveSealed (old : Tables) (size : ℕ) (known : Option PlaceMap) (filled : List Contents) (new : Tables) : Type 0 where
   pub last_is : new.held.last_id ≡ old.held.last_id + length filled
   pub others_stay : new ≡ record old { held = new.held }

@@ -126,7 +126,8 @@ fn take_each(
     requires state { (size : _) × (known : _) × Runs size known tables.old }
     requires slots { (offered : _) × HasSlots tables.old offered slots.now }
     requires id { id ≡ tables.old.held.last_id + 1 }
-    requires many { (length filled.now ≡ length slots.now) × (length sizes.now ≡ length slots.now) × (length digests.now ≡ length slots.now) }
+    requires many { (length filled.now ≡ length slots.now) × (length sizes.now ≡ length slots.now)
+        × (length digests.now ≡ length slots.now) }
     requires sizes { AreSizes filled.now sizes.now }
     requires digests { AreDigests (length slots.now) id filled.now digests.now }
     requires right { AreRight id filled.now }
@@ -157,7 +158,8 @@ fn seal_taken<D: Disk>(
     requires state { (known : _) × Runs (D.view disk.old).size known tables.old }
     requires slots { (offered : _) × HasSlots tables.old offered slots.now }
     requires id { id ≡ tables.old.held.last_id + 1 }
-    requires many { (length filled.now ≡ length slots.now) × (length sizes.now ≡ length slots.now) × (length digests.old ≡ length slots.now) }
+    requires many { (length filled.now ≡ length slots.now) × (length sizes.now ≡ length slots.now)
+        × (length digests.old ≡ length slots.now) }
     requires there { HaveSegments filled.now }
     requires leaves { AllByRecursion (λ c. c.kind ≡ Leaf) filled.now }
     requires known { AreRight id filled.now × AreSizes filled.now sizes.now }

@@ -1,8 +1,7 @@
 -- Places of several containers put into an index, and all given back what they had.
-use Rattle.std.proofs.Common.{◌≡◌, ◌≢◌, ◌⊎◌, inl, inr, ℕ, zero, suc, ◌+◌, ◌<◌, ◌≤◌, Bool, true, false, cond, List, [], ◌∷◌, ◌++◌, length, take, get_or, slice_get, Option, Some, None, Result, Ok, Err, OnOk, refl, sym, ◌∙◌, ap, subst, arith}
-use Rattle.std.specs.Prelude.{IsSome, IfSome, is_some}
+use Rattle.std.proofs.Common.{◌≡◌, ◌≢◌, ◌⊎◌, inl, inr, ℕ, zero, suc, ◌+◌, ◌<◌, Bool, true, false, cond, List, [], ◌∷◌, ◌++◌, length, take, get_or, slice_get, Option, Some, None, Result, Ok, Err, OnOk, refl, sym, ◌∙◌, ap, subst, arith}
+use Rattle.std.specs.Prelude.{IsSome, IfSome}
 use Rattle.std.specs.Global.{Vec}
-use Rattle.std.specs.List.{AllByRecursion}
 use Rattle.std.specs.Cmp.Lexicographic.{slice_cmp, nat_list_cmp_total}
 use Rattle.std.specs.Ordering.{nat_cmp, eq_by_cmp}
 use Rattle.std.specs.FinMap as finite
@@ -108,7 +107,8 @@ lacks_one (x ∷ xs) (suc i) c key here lacks = lacks_one xs i c key here lacks.
 pub over_one : (filled : List Contents) (i : ℕ) (c : Contents) → slice_get filled i ≡ Some c → (base m r : PlaceMap) → IsOver (LacksIn filled) base m
     → IsOver (Lacks c.kind (entries_from 0 c.segments)) m r → IsOver (LacksIn filled) base r
 over_one filled i c here base m r first second =
-    over_on (LacksIn filled) (Lacks c.kind (entries_from 0 c.segments)) (LacksIn filled) base m r (λ key lacks. lacks) (λ key lacks. lacks_one filled i c key here lacks) first second
+    over_on (LacksIn filled) (Lacks c.kind (entries_from 0 c.segments)) (LacksIn filled) base m r (λ key lacks. lacks)
+    (λ key lacks. lacks_one filled i c key here lacks) first second
 
 -- ---- keys are given what they had
 
@@ -170,10 +170,10 @@ module _ (kind : Kind) (es : List Entry) (hads : List (Option Place)) where
         | inr other ↦ elim (back q) [
           | inl is ↦ inl (other.1 ∙ is)
           | inr still ↦ inr (
-              subst (λ (l : List Entry). Lacks kind l q) (sym (take_more es i d within))
-                  (lacks_push kind (take i es) (get_or es i d) q still.0 (λ e. other.0 (key_is ∙ e))),
-              other.1 ∙ still.1,
-            )
+            subst (λ (l : List Entry). Lacks kind l q) (sym (take_more es i d within))
+                (lacks_push kind (take i es) (get_or es i d) q still.0 (λ e. other.0 (key_is ∙ e))),
+            other.1 ∙ still.1,
+          )
         ]
       ]
 
@@ -188,7 +188,8 @@ module _ (kind : Kind) (es : List Entry) (hads : List (Option Place)) where
 
 -- ---- container by container
 
-lacks_in_push : (filled : List Contents) (i : ℕ) (c : Contents) (key : List ℕ) → slice_get filled i ≡ Some c → LacksIn (take i filled) key → Lacks c.kind (entries_from 0 c.segments) key
+lacks_in_push : (filled : List Contents) (i : ℕ) (c : Contents) (key : List ℕ) → slice_get filled i ≡ Some c → LacksIn (take i filled) key
+    → Lacks c.kind (entries_from 0 c.segments) key
     → LacksIn (take (suc i) filled) key
 lacks_in_push [] i c key here all one = absurd cc
 lacks_in_push (x ∷ xs) zero c key here all one = (subst (λ (y : Contents). Lacks y.kind (entries_from 0 y.segments) key) (sym (same x c here)) one, tt)
@@ -199,7 +200,8 @@ lacks_in_push (x ∷ xs) (suc i) c key here all one = (all.0, lacks_in_push xs i
 
 module _ (filled : List Contents) (befores : List (Vec (Option Place))) where
   pub record AreGivenIn (count : ℕ) (old now : Option PlaceMap) : Type 0 where
-    pub back : (base m : PlaceMap) → HaveHadIn base filled befores → Covers base m → old ≡ Some m → (r : PlaceMap) × (now ≡ Some r) × IsRestored (LacksIn (take count filled)) base m r
+    pub back : (base m : PlaceMap) → HaveHadIn base filled befores → Covers base m → old ≡ Some m
+        → (r : PlaceMap) × (now ≡ Some r) × IsRestored (LacksIn (take count filled)) base m r
     pub stays : Stays old now
     pub unknown : now ≡ None → old ≡ None
 
@@ -233,16 +235,17 @@ module _ (filled : List Contents) (befores : List (Vec (Option Place))) where
             (base.0, had_on base.0 base.1, subst (Covers base.0) same (restored_covers (LacksIn (take i filled)) base.0 m was.0 base.2 was.2))
 
     module _ (now : Option PlaceMap) (given : Restores kind es hads mid now) (given_stays : Stays mid now) (given_unknown : now ≡ None → mid ≡ None) where
-      both_given : (base m r s : PlaceMap) → IsRestored (LacksIn (take i filled)) base m r → IsRestored (Lacks kind es) base r s → IsRestored (LacksIn (take (suc i) filled)) base m s
+      both_given : (base m r s : PlaceMap) → IsRestored (LacksIn (take i filled)) base m r → IsRestored (Lacks kind es) base r s
+          → IsRestored (LacksIn (take (suc i) filled)) base m s
       both_given base m r s first second = λ key. elim (second key) [
         | inl same ↦ inl same
         | inr other ↦ elim (first key) [
           | inl same ↦ inl (other.1 ∙ same)
           | inr still ↦ inr (
-              lacks_in_push filled i c key here still.0
-                  (subst (λ (k : Kind). Lacks k (entries_from 0 c.segments) key) kind_is (subst (λ (l : List Entry). Lacks kind l key) es_are other.0)),
-              other.1 ∙ still.1,
-            )
+            lacks_in_push filled i c key here still.0
+                (subst (λ (k : Kind). Lacks k (entries_from 0 c.segments) key) kind_is (subst (λ (l : List Entry). Lacks kind l key) es_are other.0)),
+            other.1 ∙ still.1,
+          )
         ]
       ]
 
@@ -294,7 +297,8 @@ over_first slots filled n m = over_all (take n slots) (take n filled) m (taken n
         (over_all ss xs (with_entries x.kind s (entries_from 0 x.segments) m) (λ key lacks. (each key lacks).1))
 
 -- one container more is in
-pub with_next_contents : (slots : List ℕ) (filled : List Contents) (i n slot : ℕ) (c : Contents) (m : PlaceMap) → slice_get slots i ≡ Some slot → slice_get filled i ≡ Some c → n ≡ suc i
+pub with_next_contents : (slots : List ℕ) (filled : List Contents) (i n slot : ℕ) (c : Contents) (m : PlaceMap) → slice_get slots i ≡ Some slot
+    → slice_get filled i ≡ Some c → n ≡ suc i
     → with_contents (take n slots) (take n filled) m ≡ with_entries c.kind slot (entries_from 0 c.segments) (with_contents (take i slots) (take i filled) m)
 with_next_contents slots filled i n slot c m here there is =
     ap (λ (k : ℕ). with_contents (take k slots) (take k filled) m) is ∙ next slots filled i m here there
@@ -367,11 +371,12 @@ pub none_restored : (kind : Kind) (es : List Entry) (hads : List (Option Place))
 none_restored kind es hads None new covered back none = refl
 none_restored kind es hads (Some m) new covered back none =
     absurd (
-      let base = covered m refl in
-      let r = back base.0 m base.1 base.2 refl in
-      let wrong : None ≡ Some r.0 = sym none ∙ r.1 in cc)
+    let base = covered m refl in
+    let r = back base.0 m base.1 base.2 refl in
+    let wrong : None ≡ Some r.0 = sym none ∙ r.1 in cc)
 
-pub listed_on : (size mid_size : ℕ) (filled : List Contents) (befores : List (Vec (Option Place))) → mid_size ≡ size → AreListed size filled befores → AreListed mid_size filled befores
+pub listed_on : (size mid_size : ℕ) (filled : List Contents) (befores : List (Vec (Option Place))) → mid_size ≡ size → AreListed size filled befores
+    → AreListed mid_size filled befores
 listed_on size mid_size filled befores same lie = subst (λ (n : ℕ). AreListed n filled befores) (sym same) lie
 
 pub entries_on : (x z : Contents) (kind : Kind) (slot : ℕ) (es : List Entry) (m : PlaceMap) → x ≡ z → kind ≡ x.kind → es ≡ entries_from 0 x.segments

@@ -105,7 +105,13 @@ fn restore_each<D: Disk, X: Index>(
     ensures served { X.serves index.new (D.view disk.new).size }
 {
     for i in 0..filled.len() {
-        restore(disk, index, filled[i].kind(), filled[i].entries(), &befores[i])?;
+        restore(
+            disk,
+            index,
+            filled[i].kind(),
+            filled[i].entries(),
+            &befores[i],
+        )?;
     }
     Ok(())
 }

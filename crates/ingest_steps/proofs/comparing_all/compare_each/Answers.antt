@@ -1,6 +1,6 @@
-use Rattle.ingest_steps.proofs.Prelude.{◌≡◌, ◌+◌, ◌∙◌, length, refl, ap, subst, sym, arith, Done, Shows, passed_on}
+use Rattle.ingest_steps.proofs.Prelude.{◌+◌, ◌∙◌, length, refl, ap, subst, sym, arith, Done, Shows, passed_on}
 use Rattle.std.proofs.lemmas.Option.{slice_get_read}
-use Rattle.dd_disk.proofs.Ended.{reads_none, reads_on}
+use Rattle.dd_disk.proofs.Ended.{reads_on}
 use Rattle.store_state.specs.Comparing.{IsAllRefusal}
 use Rattle.ingest_steps.specs.Offering.{FitIn, IsFirstUnlikeIn}
 use Rattle.ingest_steps.proofs.PinList.{length-push}

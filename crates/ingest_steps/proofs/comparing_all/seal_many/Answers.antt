@@ -1,4 +1,4 @@
-use Rattle.ingest_steps.proofs.Prelude.{◌≡◌, ◌+◌, ℕ, List, None, Option, subst, slot_at, Done, PlaceMap, Refusal, Shows, ending, ending_of, map_err, passed, passed_on, IsChangeRefusal, IsSealRefusal}
+use Rattle.ingest_steps.proofs.Prelude.{◌+◌, ℕ, List, None, Option, subst, slot_at, Done, PlaceMap, Refusal, Shows, ending, map_err, passed, passed_on, IsChangeRefusal, IsSealRefusal}
 use Rattle.container_log.specs.Many.{placed}
 use Rattle.store_state.specs.Refused.{blames}
 use Rattle.ingest_steps.specs.Offering.{AreCompared, WereCompared, in_free}

@@ -1,4 +1,4 @@
-use Rattle.ingest_steps.proofs.Prelude.{◌≡◌, ◌+◌, ◌∙◌, ℕ, List, [], ◌∷◌, None, Option, PlaceMap, length, get_or, refl, ap, sym, subst, arith, ending, map_err, Contents, Refusal, Shows, HasPlacesOf, HasSlot, IsCompared, IsSealRefusal}
+use Rattle.ingest_steps.proofs.Prelude.{◌≡◌, ◌+◌, ℕ, List, [], ◌∷◌, None, get_or, refl, sym, subst, arith, ending, map_err, Contents, Shows, HasPlacesOf, HasSlot, IsCompared, IsSealRefusal}
 use Rattle.std.proofs.lemmas.Option.{slice_get_read}
 use Rattle.container_log.specs.Many.{placed}
 use Rattle.store_state.specs.Refused.{blames}
@@ -47,8 +47,10 @@ returns-clause-map g c =
     let has : HasSlot t slot = slot_one t c.requires.slots.0 slots old.size c.requires.state c.requires.slots.1 (omega (arith, c.requires.one, c.requires.many)) in
     map_on_ok c.seal_compared.result (HasPlacesOf x slot (places c.args.index.now) (places c.seal_compared.new.index) old.content new.content)
     (HasPlacesOfAll (placed slots (t.held.last_id + 1) c.args.filled.now) (places c.args.index.now) (places c.seal_compared.new.index) old.content new.content)
-    (λ one. subst (λ (l : List ℕ). HasPlacesOfAll (placed l (t.held.last_id + 1) c.args.filled.now) (places c.args.index.now) (places c.seal_compared.new.index) old.content new.content) (sym there)
-    (subst (λ (cs : List Contents). HasPlacesOfAll (placed (slot ∷ []) (t.held.last_id + 1) cs) (places c.args.index.now) (places c.seal_compared.new.index) old.content new.content) (sym is)
+    (λ one. subst (λ (l : List ℕ). HasPlacesOfAll (placed l (t.held.last_id + 1) c.args.filled.now) (places c.args.index.now)
+    (places c.seal_compared.new.index) old.content new.content) (sym there)
+    (subst (λ (cs : List Contents). HasPlacesOfAll (placed (slot ∷ []) (t.held.last_id + 1) cs) (places c.args.index.now)
+    (places c.seal_compared.new.index) old.content new.content) (sym is)
     (one_places x slot (t.held.last_id + 1) (places c.args.index.now) (places c.seal_compared.new.index) old.content new.content one)))
     c.seal_compared.ensures.map
 
@@ -67,7 +69,8 @@ returns-clause-refused g c =
     let slot : ℕ = get_or slots 0 0 in
     let there : slots ≡ slot ∷ [] = one_slot_list slots (omega (arith, c.requires.one, c.requires.many)) in
     let has : HasSlot t slot = slot_one t c.requires.slots.0 slots old.size c.requires.state c.requires.slots.1 (omega (arith, c.requires.one, c.requires.many)) in
-    map_err c.seal_compared.result (IsSealRefusal known (IsCompared old.size known (Shows old new) x)) (IsSealRefusal known (AreCompared old.size known (Shows old new) c.args.filled.now))
+    map_err c.seal_compared.result (IsSealRefusal known (IsCompared old.size known (Shows old new) x)) (IsSealRefusal known (AreCompared old.size known
+    (Shows old new) c.args.filled.now))
     (λ refusal has. subst (λ (cs : List Contents). IsSealRefusal known (AreCompared old.size known (Shows old new) cs) refusal) (sym is)
     (one_refused old.size known (Shows old new) x refusal has)) c.seal_compared.ensures.refused
 

@@ -1,7 +1,6 @@
-use Rattle.ingest_steps.proofs.Prelude.{◌≡◌, ◌+◌, ◌<◌, ℕ, List, Option, length, take, refl, ap, sym, subst, ◌∙◌, arith, Pin, PinMap, WereHad, with_pins}
+use Rattle.ingest_steps.proofs.Prelude.{◌≡◌, ◌+◌, ℕ, length, take, refl, ap, sym, subst, ◌∙◌, arith, PinMap, WereHad, with_pins}
 use Rattle.std.proofs.lemmas.Option.{slice_get_read}
-use Rattle.std.specs.Global.{Vec}
-use Rattle.ingest_steps.specs.Offering.{IsHadOf, WereHadIn, with_pins_of}
+use Rattle.ingest_steps.specs.Offering.{WereHadIn, with_pins_of}
 use Rattle.ingest_steps.proofs.PinList.{length-push}
 use Rattle.ingest_steps.proofs.PinnedAll.{had_in_push, pins_of_next}
 use Rattle.ingest_steps.proofs.pinning_all.pin_each.Goals as goal

@@ -1,4 +1,4 @@
-use Rattle.ingest_steps.proofs.Prelude.{◌≡◌, ◌+◌, ◌-◌, ℕ, List, length, take, refl, ap, ◌∙◌, arith, PinMap}
+use Rattle.ingest_steps.proofs.Prelude.{◌≡◌, ◌+◌, ◌-◌, ℕ, length, take, refl, ap, ◌∙◌, arith, PinMap}
 use Rattle.std.proofs.lemmas.Option.{slice_get_read}
 use Rattle.ingest_steps.specs.Offering.{with_pins_of}
 use Rattle.ingest_steps.proofs.PinnedAll.{had_right, had_were, had_kept}

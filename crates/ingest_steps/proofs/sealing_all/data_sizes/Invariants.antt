@@ -1,4 +1,4 @@
-use Rattle.ingest_steps.proofs.Prelude.{◌≡◌, ◌+◌, ◌<◌, ℕ, Some, Contents, length, get_or, header_of}
+use Rattle.ingest_steps.proofs.Prelude.{◌≡◌, ◌<◌, ℕ, Some, Contents, length, get_or, header_of}
 use Rattle.std.proofs.Common.{true, slice_get}
 use Rattle.container_meta.specs.Format.{is_id}
 use Rattle.container_meta.specs.Segments.{bytes_in}

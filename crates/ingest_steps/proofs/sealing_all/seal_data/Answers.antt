@@ -1,4 +1,4 @@
-use Rattle.ingest_steps.proofs.Prelude.{ℕ, arith}
+use Rattle.ingest_steps.proofs.Prelude.{ℕ}
 use Rattle.ingest_steps.proofs.SealedAll.{changes_slots, ids_right, seals_data, slots_lie}
 use Rattle.ingest_steps.proofs.sealing_all.seal_data.Goals as goal
 

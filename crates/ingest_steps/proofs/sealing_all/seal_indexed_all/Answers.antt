@@ -1,4 +1,4 @@
-use Rattle.ingest_steps.proofs.Prelude.{◌≡◌, ◌+◌, ◌<◌, ◌∙◌, ℕ, List, None, Some, length, ap, arith, refl, sym, subst, Done, ending_of, passed, reads_here, slot_at, SameBefore, Steps, Runs}
+use Rattle.ingest_steps.proofs.Prelude.{◌+◌, ◌∙◌, ℕ, None, ap, arith, refl, sym, subst, Done, ending_of, passed, reads_here, slot_at, SameBefore, Steps, Runs}
 use Rattle.container_log.specs.Many.{placed}
 use Rattle.store_state.specs.Refused.{blames}
 use Rattle.ingest_steps.specs.SealingAll.{AreSizes, SealsData, SealsPlaced}
@@ -29,7 +29,8 @@ returns-in_err-sizes-clause-moves g c =
     offer_refused t known (λ _. ps) old c.from_residual.result _ c.from_residual.ensures.1 (reads_here old)
 
 pub returns-in_err-image-clause-disk : goal.returns-in_err-image-clause-disk
-returns-in_err-image-clause-disk g c = memory_here c.args.tables.now.slots (g.D.Disk.view c.args.disk.now) c.from_residual-in_err-image.result c.from_residual-in_err-image.ensures.1
+returns-in_err-image-clause-disk g c = memory_here c.args.tables.now.slots
+    (g.D.Disk.view c.args.disk.now) c.from_residual-in_err-image.result c.from_residual-in_err-image.ensures.1
 
 pub returns-in_err-image-clause-moves : goal.returns-in_err-image-clause-moves
 returns-in_err-image-clause-moves g c =
@@ -43,7 +44,8 @@ returns-in_err-image-clause-moves g c =
     offer_refused t known (λ _. ps) old c.from_residual-in_err-image.result _ c.from_residual-in_err-image.ensures.1 (reads_here old)
 
 pub returns-in_err-digests-clause-disk : goal.returns-in_err-digests-clause-disk
-returns-in_err-digests-clause-disk g c = memory_here c.args.tables.now.slots (g.D.Disk.view c.args.disk.now) c.from_residual-in_err-digests.result c.from_residual-in_err-digests.ensures.1
+returns-in_err-digests-clause-disk g c = memory_here c.args.tables.now.slots
+    (g.D.Disk.view c.args.disk.now) c.from_residual-in_err-digests.result c.from_residual-in_err-digests.ensures.1
 
 pub returns-in_err-digests-clause-moves : goal.returns-in_err-digests-clause-moves
 returns-in_err-digests-clause-moves g c =
@@ -154,7 +156,8 @@ returns-in_err-seal_taken-clause-moves g c =
     passed (λ x. SealsPlaced t known (λ _. ps) x old new) blames c.from_residual-in_err-seal_taken.result e c.from_residual-in_err-seal_taken.ensures.1
     (placed_on t known (λ _. ps) (ending_of (blames e)) old mid new changes c.in_err-seal_taken.ensures.disk.later (placed_data t known slots ps (ending_of (blames e)) mid new
     (slots_placed slots (t.held.last_id + 1) filled c.requires.many.0)
-    (subst (λ (i : ℕ). SealsData t (placed slots i filled) (ending_of (blames e)) mid new) c.next_id-id.ensures.next c.in_err-seal_taken.ensures.moves) c.in_err-seal_taken.ensures.frame))
+    (subst (λ (i : ℕ). SealsData t (placed slots i filled) (ending_of
+    (blames e)) mid new) c.next_id-id.ensures.next c.in_err-seal_taken.ensures.moves) c.in_err-seal_taken.ensures.frame))
 
 pub returns-clause-ok : goal.returns-clause-ok
 returns-clause-ok g c =

@@ -1,5 +1,5 @@
 use Rattle.ingest_steps.proofs.Prelude.{◌≡◌, ◌+◌, ◌<◌, ◌∙◌, ℕ, List, Some, length, take, get_or, refl, ap, sym, subst, arith, Contents, header_of, entries_within, Store, Tables}
-use Rattle.std.proofs.Common.{slice_get, take_all}
+use Rattle.std.proofs.Common.{take_all}
 use Rattle.std.proofs.lemmas.Option.{slice_get-get_or, slice_get_read}
 use Rattle.container_log.specs.Many.{placed}
 use Rattle.store_model.specs.Together.{with_all}

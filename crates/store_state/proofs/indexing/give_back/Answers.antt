@@ -1,4 +1,4 @@
-use Rattle.std.proofs.Common.{List, Option, subst}
+use Rattle.std.proofs.Common.{Option, subst}
 use Rattle.std.specs.Prelude.{IfSome, IsSome}
 use Rattle.std.specs.FinMap as finite
 use Rattle.container_meta.specs.declared.place.Place.{Place}

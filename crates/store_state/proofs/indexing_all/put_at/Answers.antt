@@ -1,4 +1,4 @@
-use Rattle.std.proofs.Common.{◌≡◌, ◌+◌, ◌∙◌, ℕ, List, Some, Err, slice_get, refl, ap, subst, sym, arith}
+use Rattle.std.proofs.Common.{◌≡◌, ◌∙◌, Some, slice_get, refl, ap, subst, sym}
 use Rattle.std.specs.List.{AllByRecursion}
 use Rattle.std.proofs.lemmas.Option.{slice_get_read}
 use Rattle.container_meta.specs.declared.entry.Entry.{Entry}
@@ -94,8 +94,7 @@ returns-in_ok-restore_each-clause-memory g c = λ ran_out.
     let entries : c.entries.result.now ≡ entries_from 0 x.segments =
     c.entries.ensures.entries ∙ ap (λ (z : Contents). entries_from 0 z.segments) (same_contents y x (sym also ∙ here)) in
     let some = c.put_some-ended.ensures.memory ran_out in
-    let now = places c.restore_each.new.index (view c.restore_each.new.disk).content in
-    (
+    let now = places c.restore_each.new.index (view c.restore_each.new.disk).content in (
       taken_all_back filled befores c.args.at x here c.kind.result c.entries.result.now c.kind.ensures entries known mid_known now some.0 c.in_ok-restore_each.ensures.ok,
       λ none. c.in_ok-restore_each.ensures.unknown (some.1 none),
     )

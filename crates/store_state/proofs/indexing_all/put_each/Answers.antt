@@ -1,11 +1,10 @@
-use Rattle.std.proofs.Common.{◌≡◌, ◌+◌, ◌<◌, ◌∙◌, ℕ, List, Some, Err, get_or, slice_get, length, take, refl, ap, subst, sym, arith}
-use Rattle.std.proofs.lemmas.Option.{slice_get-get_or, slice_get_read}
+use Rattle.std.proofs.Common.{◌+◌, ◌<◌, ◌∙◌, ℕ, Some, Err, get_or, length, take, ap, sym, arith}
+use Rattle.std.proofs.lemmas.Option.{slice_get-get_or}
 use Rattle.base_model.proofs.Outcome.{passed_on}
 use Rattle.dd_disk.specs.Ending.{Done, ending_of}
 use Rattle.dd_disk.proofs.Moves.{passed}
 use Rattle.disk_format.specs.Layout.{slot_at}
 use Rattle.refusals.specs.declared.refusal.Refusal.TheVariants.{Memory}
-use Rattle.container_meta.specs.Segments.{Contents}
 use Rattle.segment_index.specs.Changes.{Changes}
 use Rattle.store_state.specs.Indexing.{IsChangeRefusal}
 use Rattle.store_state.specs.IndexingAll.{with_contents}

@@ -1,4 +1,4 @@
-use Rattle.std.proofs.Common.{◌≡◌, ◌∙◌, ℕ, List, [], Some, Err, get_or, ap, subst, sym}
+use Rattle.std.proofs.Common.{◌∙◌, ℕ, List, [], Some, Err, get_or, ap, subst, sym}
 use Rattle.std.specs.FinMap as finite
 use Rattle.base_model.proofs.Outcome.{passed_on}
 use Rattle.container_meta.specs.declared.entry.Entry.{Entry}
@@ -32,8 +32,7 @@ returns-in_err-put-clause-memory g c = λ ran_out.
     let view = g.D.Disk.view in
     let places = g.X.Index.places in
     let e = c.in_err-put.field-0.0 in
-    let same = c.in_err-put.ensures.memory (ap Err (err_is c.from_residual.result e Memory c.from_residual.ensures.1 ran_out)) in
-    (
+    let same = c.in_err-put.ensures.memory (ap Err (err_is c.from_residual.result e Memory c.from_residual.ensures.1 ran_out)) in (
       put_first c.args.kind c.args.slot c.args.entries.now c.loop-at.at (places c.args.index.now (view c.args.disk.now).content)
           (places c.loop-at.index (view c.loop-at.disk).content) (places c.put.new.index (view c.put.new.disk).content) c.loop-at.invariant.0 same,
       λ none. same ∙ c.loop-at.invariant.1 none,
@@ -72,8 +71,7 @@ loop-at-preserved g c =
     let at : ℕ = c.loop-at.at in
     let es = c.args.entries.now in
     let d : Entry = record { digest = []; offset = 0; length = 0; level = 0 } in
-    let x : Entry = get_or es at d in
-    (
+    let x : Entry = get_or es at d in (
       in_more c.args.kind c.args.slot es at d c.loop-at-test.true (places c.args.index.now old.content) (places c.loop-at.index mid.content)
           (places c.put.new.index new.content) c.loop-at.invariant.0
           (λ m is. c.in_ok-put.ensures.ok m is ∙ ap (λ (k : List ℕ). Some (finite.insert m k c.place_in.result)) c.key_in.ensures.key

@@ -1,4 +1,4 @@
-use Rattle.std.proofs.Common.{◌≡◌, ◌∙◌, ℕ, [], None, refl, arith, take_all}
+use Rattle.std.proofs.Common.{◌∙◌, [], None, refl, arith, take_all}
 use Rattle.container_meta.specs.declared.entry.Entry.{Entry}
 use Rattle.dd_disk.specs.Ending.{Done, ending_of}
 use Rattle.dd_disk.proofs.Moves.{passed}

@@ -1,5 +1,4 @@
 use Rattle.std.proofs.Common.{ℕ, List, take, ◌∙◌, ap, arith, inl, inr}
-use Rattle.std.proofs.lemmas.Bool.{eqb-true}
 use Rattle.store_state.proofs.Closed.{zeros_from, zeros_closed, all_found}
 use Rattle.store_state.proofs.slot_table.SlotTable.first_closed.Goals as goal
 use Rattle.store_state.proofs.slot_table.SlotTable.first_closed.Goals.{else-loop-slot-test, then-loop-slot-test+then-len-count}

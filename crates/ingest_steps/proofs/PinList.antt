@@ -56,7 +56,8 @@ pins_whole kind ss pins n is = ap (λ (k : ℕ). with_pins kind (take k ss) pins
 -- ---- what was said
 
 module _ {X : Type 0} (d : X) where
-  pushed : (xs : List X) (x : X) (j : ℕ) → j < length xs + 1 → (j < length xs × (get_or (xs ++ x ∷ []) j d ≡ get_or xs j d)) ⊎ ((j ≡ length xs) × (get_or (xs ++ x ∷ []) j d ≡ x))
+  pub pushed : (xs : List X) (x : X) (j : ℕ) → j < length xs + 1
+      → (j < length xs × (get_or (xs ++ x ∷ []) j d ≡ get_or xs j d)) ⊎ ((j ≡ length xs) × (get_or (xs ++ x ∷ []) j d ≡ x))
   pushed [] x zero within = inr (refl, refl)
   pushed [] x (suc j) within = absurd (omega (arith, within))
   pushed (y ∷ ys) x zero within = inl (omega arith, refl)

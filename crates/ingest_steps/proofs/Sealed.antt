@@ -14,7 +14,7 @@ use Rattle.store_model.proofs.SealedTrees.{IsNewestOf, all_by_fit, newest_of_cop
 use Rattle.store_model.proofs.Sound.{sound_of_right}
 use Rattle.store_state.specs.Invariant.{IndexesFiles}
 use Rattle.ingest_steps.specs.Sealing.{IsSlotFor}
-use Rattle.ingest_steps.proofs.SlotFrame.{frame_of}
+use Rattle.ingest_steps.proofs.SlotFrame.{frame_of, slot_after, slot_settled}
 
 pub same_content : (a b : List ℕ) → Some a ≡ Some b → a ≡ b
 same_content a b is = cc
@@ -169,7 +169,7 @@ module _ (slots slot id : ℕ) (filled : Contents) (within : slot < slots) where
 
   pub changes_slot : (e : Ending) (old new : DiskView) → Writes (Seals slot id filled.kind filled.segments) (IsSealed slot id filled.kind filled.segments) e old new
       → ChangesSlotAlone slots slot old new
-  changes_slot e old new writes = frame_of slots slot within old new writes.later (λ given known.
+  changes_slot e old new writes = frame_of slots (SameButSlotOf slots slot) (slot_settled slots slot within) (slot_after slots slot within) old new writes.later (λ given known.
       leaves_weaker (SteppedFrom (Seals slot id filled.kind filled.segments given) old) (SteppedFrom (SameButSlotOf slots slot) old) old new (λ c from. elim from [
         | inl image ↦ inl image
         | inr step ↦ stepped old given step.0 c known step.1 step.2

@@ -131,16 +131,16 @@ module _ {spares : ℕ} (t new : Tables) (slot id : ℕ) (filled : Contents) (ha
 
 -- ---- the disk, where the index is changed
 
-both_known : (R : List ℕ → List ℕ → Type 0) (a b : Option (List ℕ)) (old new : List ℕ) → Both R a b → a ≡ Some old → b ≡ Some new → R old new
+pub both_known : (R : List ℕ → List ℕ → Type 0) (a b : Option (List ℕ)) (old new : List ℕ) → Both R a b → a ≡ Some old → b ≡ Some new → R old new
 both_known R None b old new has is also = absurd cc
 both_known R (Some a) None old new has is also = absurd cc
 both_known R (Some a) (Some b) old new has is also = subst (R old) (some_same b new also) (subst (λ (x : List ℕ). R x b) (some_same a old is) has)
 
 module _ (store : Store) (slots : ℕ) (slots_are : slots ≡ store.slots) where
-  to_slots : (old new : List ℕ) → SameBefore (slot_at slots) old new → SameTo (slot_at store.slots) old new
+  pub to_slots : (old new : List ℕ) → SameBefore (slot_at slots) old new → SameTo (slot_at store.slots) old new
   to_slots old new same p n within = same.before p n (omega (arith, within, slots_are))
 
-  stands_before : (S : List ℕ → Type 0) (files : Files) (old new : List ℕ) → Stands S store files old → SameBefore (slot_at slots) old new → Stands S store files new
+  pub stands_before : (S : List ℕ → Type 0) (files : Files) (old new : List ℕ) → Stands S store files old → SameBefore (slot_at slots) old new → Stands S store files new
   stands_before S files old new stands same = stands_framed S store files old new stands (to_slots old new same) same.size
 
   -- what fits in one image fits in the other
@@ -180,13 +180,13 @@ module _ (store : Store) (slots : ℕ) (slots_are : slots ≡ store.slots) where
 
   module _ (S : List ℕ → Type 0) (files : Files) (e : Ending) (old mid : DiskView) (changes : Changes (slot_at slots) e old mid)
       (stands : StandsFor (Stands S store files) old) where
-    leaves_before : CrashLeaves (Stands S store files) old mid
+    pub leaves_before : CrashLeaves (Stands S store files) old mid
     leaves_before = leaves_weaker (SteppedFrom (SameBefore (slot_at slots)) old) (Stands S store files) old mid (λ c from. elim from [
       | inl image ↦ stands.each c image
       | inr stepped ↦ stands_before S files stepped.0 c (stands.each stepped.0 stepped.1) stepped.2
     ]) changes.leaves
 
-    then_stands : StandsFor (Stands S store files) mid
+    pub then_stands : StandsFor (Stands S store files) mid
     then_stands = stands_left (Stands S store files) (Stands S store files) old mid stands changes.later leaves_before
 
 -- what counts is as it was, where the change was refused

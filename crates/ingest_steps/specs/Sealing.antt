@@ -64,13 +64,16 @@ pub record SameButSlotOf (slots slot : ℕ) (old new : List ℕ) : Type 0 where
   pub before : (p n : ℕ) → p + n ≤ slot_at slot → range p n new ≡ range p n old
   pub after : (p n : ℕ) → slot_at (slot + 1) ≤ p → p + n ≤ slot_at slots → range p n new ≡ range p n old
 
--- Nothing changes but the slot, and what comes after all slots, whatever the disk holds.
-pub record ChangesSlotAlone (slots slot : ℕ) (old new : DiskView) : Type 0 where
-  -- At any moment a crash leaves an image from before, or one but for these.
-  pub leaves : Known old.content (λ given. CrashLeaves (SteppedFrom (SameButSlotOf slots slot) old) old new)
-  -- Of a disk that was settled reads give, and a crash leaves, what they gave, but for these.
-  pub settled : IsSettled slots old → Known old.content (λ given.
-      KnownWith new.content (SameButSlotOf slots slot given) × CrashLeaves (SameButSlotOf slots slot given) old new)
+-- Nothing changes but what two images in which all else is the same may differ in, whatever the disk holds.
+pub record ChangesAlone (Same : List ℕ → List ℕ → Type 0) (slots : ℕ) (old new : DiskView) : Type 0 where
+  -- At any moment a crash leaves an image from before, or one but for that.
+  pub leaves : Known old.content (λ given. CrashLeaves (SteppedFrom Same old) old new)
+  -- Of a disk that was settled reads give, and a crash leaves, what they gave, but for that.
+  pub settled : IsSettled slots old → Known old.content (λ given. KnownWith new.content (Same given) × CrashLeaves (Same given) old new)
+
+-- nothing but the slot, and what comes after all slots
+abbrev pub ChangesSlotAlone : ℕ → ℕ → DiskView → DiskView → Type 0
+ChangesSlotAlone slots slot old new = ChangesAlone (SameButSlotOf slots slot) slots old new
 
 -- the slot is the first free one of each store that the tables represent
 abbrev pub ChangesFirstFree : Option PlaceMap → Tables → DiskView → DiskView → Type 0

@@ -41,7 +41,7 @@ fn unpinned_at(pins: &Pins, filled: &OpenContainer, i: usize) -> Option<Key>
 }
 
 // The first child, of the first segment that has one, that isn't among the pins.
-fn first_unpinned(pins: &Pins, filled: &OpenContainer) -> Option<Key>
+pub(crate) fn first_unpinned(pins: &Pins, filled: &OpenContainer) -> Option<Key>
     requires { AreStepSegments filled.now.kind filled.now.segments }
     ensures { result ≡ first_unpinned_of filled.now.kind filled.now.segments pins.now }
 {

@@ -98,7 +98,7 @@ pub fn seal_container<D: Disk>(
 }
 
 // How many bytes of data a container has.
-fn data_bytes(filled: &OpenContainer) -> u32
+pub(crate) fn data_bytes(filled: &OpenContainer) -> u32
     requires { 1 ≤ length filled.now.segments }
     ensures bytes { result ≡ bytes_in filled.now.segments }
     ensures right { (id : ℕ) → is_id id ≡ true → IsHeader (header_of id filled.now.kind filled.now.segments) }
@@ -179,7 +179,7 @@ pub fn seal_indexed<D: Disk, X: Index>(
 }
 
 // The id after the last one.
-fn next_id(tables: &Tables) -> u64
+pub(crate) fn next_id(tables: &Tables) -> u64
     requires { tables.now.held.last_id < LAST_ID }
     ensures next { result ≡ tables.now.held.last_id + 1 }
     ensures id { is_id result ≡ true }

@@ -1,3 +1,4 @@
+mod Closed
 pub mod Changed
 pub mod Compared
 mod Entered
@@ -5,6 +6,7 @@ pub mod Few
 pub mod Indexed
 mod Newest
 pub mod Parts
+mod PutAll
 pub mod PutBack
 pub mod Serving
 pub mod Taken

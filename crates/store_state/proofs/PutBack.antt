@@ -1,6 +1,6 @@
 -- Entries put into an index one after the other, and taken back the last of them first.
 use Rattle.std.proofs.Common.{◌≡◌, ℕ, zero, suc, ◌+◌, ◌<◌, false, List, [], ◌∷◌, ◌++◌, length, take, drop, get_or, Option, Some, None, refl, sym, ◌∙◌, ap, subst, arith}
-use Rattle.std.specs.Prelude.{IsSome}
+use Rattle.std.specs.Prelude.{IfSome, IsSome}
 use Rattle.std.specs.List.{AllByRecursion}
 use Rattle.std.specs.Str.{bytes_eq}
 use Rattle.std.specs.FinMap as finite
@@ -27,6 +27,10 @@ pub all_got : {X : Type 0} (P : X → Type 0) (d : X) (xs : List X) (j : ℕ) �
 all_got P d [] j within all = absurd (omega (arith, within))
 all_got P d (x ∷ xs) zero within all = all.0
 all_got P d (x ∷ xs) (suc j) within all = all_got P d xs j (omega (arith, within)) all.1
+
+pub if_some : {X : Type 0} (o : Option X) (P : Type 0) → P → IfSome o (λ _. P)
+if_some None P has = tt
+if_some (Some x) P has = has
 
 one_taken : (es : List Entry) (i : ℕ) (d : Entry) → i < length es → take 1 (drop i es) ≡ get_or es i d ∷ []
 one_taken es i d within = ap (take 1) (drop-cons es i d within)
@@ -60,7 +64,7 @@ got_before kind slot first (e ∷ es) (suc i) d within follow m =
     ∙ got_other m (entry_key kind e) (entry_key kind (get_or es i d)) (place_of slot e)
     (all_got (λ (x : Entry). bytes_eq (entry_key kind e) (entry_key kind x) ≡ false) d es i (omega (arith, within)) (later_differ kind first e es follow))
 
-had_at : (m : PlaceMap) (kind : Kind) (es : List Entry) (hads : List (Option Place)) (i : ℕ) (d : Entry) (o : Option Place) → i < length es → HaveHad m kind es hads →
+pub had_at : (m : PlaceMap) (kind : Kind) (es : List Entry) (hads : List (Option Place)) (i : ℕ) (d : Entry) (o : Option Place) → i < length es → HaveHad m kind es hads →
     get_or hads i o ≡ finite.get m (entry_key kind (get_or es i d))
 had_at m kind [] hads i d o within had = absurd (omega (arith, within))
 had_at m kind (e ∷ es) [] i d o within had = absurd had

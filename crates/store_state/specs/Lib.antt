@@ -1,6 +1,7 @@
 pub mod Comparing
 pub mod Containers
 pub mod Indexing
+pub mod IndexingAll
 pub mod Invariant
 pub mod Refused
 pub mod Settled

@@ -1,5 +1,5 @@
 -- Which store the tables of a running store represent (docs/MODEL.md, 'The running store').
-use Rattle.std.specs.Prelude.{◌≡◌, ℕ, ◌<◌, ◌≤◌, List, length, map, slice_get, Option, Some, None}
+use Rattle.std.specs.Prelude.{◌≡◌, ℕ, suc, ◌<◌, ◌≤◌, List, [], ◌∷◌, length, map, slice_get, Option, Some, None}
 use Rattle.base_model.specs.Bytes.{zeros}
 use Rattle.container_meta.specs.declared.kind.Kind.TheVariants.{Leaf}
 use Rattle.container_meta.specs.Places.{PlaceMap}
@@ -28,6 +28,12 @@ pub record IsFirstFree (slot : ℕ) (held : List (Option HeaderValue)) : Type 0 
   pub first : slot ≡ first_free held
   pub within : slot < length held
   pub closed : slice_get held slot ≡ Some None
+
+-- the closed slots, from a number on, rising
+abbrev pub closed_from : ℕ → List (Option HeaderValue) → List ℕ
+closed_from at [] = []
+closed_from at (None ∷ cs) = at ∷ closed_from (suc at) cs
+closed_from at (Some h ∷ cs) = closed_from (suc at) cs
 
 -- the journal and the names are those of the store
 abbrev pub RepresentsNames : Store → Tables → Type 0

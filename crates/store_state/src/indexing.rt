@@ -51,7 +51,7 @@ pub fn find<D: Disk, X: Index>(
 }
 
 // The key of an entry.
-fn key_in(kind: Kind, entry: &Entry) -> Key
+pub(crate) fn key_in(kind: Kind, entry: &Entry) -> Key
     ensures key { result ≡ entry_key kind entry.now }
     ensures kind { HasKind result }
 {
@@ -59,7 +59,7 @@ fn key_in(kind: Kind, entry: &Entry) -> Key
 }
 
 // Gives a key a place.
-fn put<D: Disk, X: Index>(
+pub(crate) fn put<D: Disk, X: Index>(
     disk: &mut D,
     index: &mut X,
     key: &Key,
@@ -112,8 +112,8 @@ pub fn remove_key<D: Disk, X: Index>(disk: &mut D, index: &mut X, key: &Key) -> 
     }
 }
 
-// Gives a key, which has a place, the one that it had before, or none.
-fn give_back<D: Disk, X: Index>(
+// Gives a key the place that it had before, and then it has one still, or none.
+pub(crate) fn give_back<D: Disk, X: Index>(
     disk: &mut D,
     index: &mut X,
     key: &Key,
@@ -122,7 +122,7 @@ fn give_back<D: Disk, X: Index>(
     requires serves { X.serves index.old (D.view disk.old).size }
     requires kind { HasKind key.now }
     requires place { IfSome had.now (IsPlace (D.view disk.old).size) }
-    requires there { KnownMap (X.places index.old (D.view disk.old).content) (λ m. IsSome (finite.get m key.now)) }
+    requires there { IfSome had.now (λ _. KnownMap (X.places index.old (D.view disk.old).content) (λ m. IsSome (finite.get m key.now))) }
     ensures ok { OnOk result (KnownMap (X.places index.old (D.view disk.old).content)
         (λ m. X.places index.new (D.view disk.new).content ≡ Some (with_had had.now key.now m))) }
     ensures unknown { OnOk result (Stays (X.places index.old (D.view disk.old).content) (X.places index.new (D.view disk.new).content)) }
@@ -140,7 +140,7 @@ fn give_back<D: Disk, X: Index>(
 }
 
 // Whether there was no memory.
-fn ran_out(ended: &Result<(), Refusal>) -> bool
+pub(crate) fn ran_out(ended: &Result<(), Refusal>) -> bool
     ensures yes { IsTrue result → ended.now ≡ Err Memory }
     ensures no { IsFalse result → ended.now ≡ Err Memory → ⊥ }
 {

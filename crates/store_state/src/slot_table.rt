@@ -1,11 +1,12 @@
 //! What each slot of a running store holds, as far as steps go by it.
-ghost use Rattle.std.specs.Prelude.{◌≡◌, ◌<◌, ◌≤◌, ◌==◌, List, Option, None, Some, length, max, count_by, position, IfSome};
+ghost use Rattle.std.specs.Prelude.{◌≡◌, ◌<◌, ◌≤◌, ◌==◌, List, Option, None, Some, length, max, take, count_by, position, IfSome, IfOk};
 ghost use Rattle.disk_format.specs.declared.numbers.TheConstants.{MOST_SLOTS as MANY};
 ghost use Rattle.container_meta.specs.Spelling.{HeaderValue};
 ghost use Rattle.store_model.specs.Slots.{AreHeaders, free_slots, ids_of, with_slot, without_slot};
-ghost use Rattle.store_state.specs.Tables.{RepresentsSlots, IsFirstFree, count_of};
+ghost use Rattle.store_state.specs.Tables.{RepresentsSlots, IsFirstFree, closed_from, count_of};
 
 use container_meta::Kind;
+use std::alloc::{AllocError, Global};
 
 /// What the container in a slot holds, as its header says: nothing, where the slot is closed.
 #[derive(Clone, Copy)]
@@ -79,6 +80,24 @@ impl SlotTable {
     {
         let slot = first_zero(&self.ids)?;
         Some(slot as u32)
+    }
+
+    /// The closed slots of least number, so many, or all where there are fewer. It fails for want of memory alone.
+    pub fn first_closed(&self, alloc: Global, count: usize) -> Result<Vec<u32>, AllocError>
+        requires { length self.now.ids.items ≤ MANY }
+        ensures { IfOk result (λ slots. (held : List (Option HeaderValue)) → self.now.ids.items ≡ ids_of held
+            → AreHeaders held → slots.items ≡ take count (closed_from 0 held)) }
+    {
+        let mut slots = Vec::new(alloc);
+        for slot in 0..self.ids.len() {
+            if slots.len() == count {
+                break;
+            }
+            if self.ids[slot] == 0 {
+                slots.push(slot as u32)?;
+            }
+        }
+        Ok(slots)
     }
 
     /// Takes a container that was written to a slot: its id, and what its header says. It takes no memory.

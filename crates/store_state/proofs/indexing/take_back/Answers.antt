@@ -1,4 +1,4 @@
-use Rattle.std.proofs.Common.{◌≡◌, ◌<◌, ◌+◌, ◌-◌, ◌∙◌, ℕ, [], None, length, refl, arith}
+use Rattle.std.proofs.Common.{◌≡◌, ◌<◌, ◌+◌, ◌-◌, ◌∙◌, ℕ, [], None, get_or, length, refl, arith}
 use Rattle.container_meta.specs.declared.entry.Entry.{Entry}
 use Rattle.dd_disk.specs.Ending.{Done, ending_of}
 use Rattle.dd_disk.proofs.Moves.{passed}
@@ -6,7 +6,7 @@ use Rattle.disk_format.specs.Layout.{slot_at}
 use Rattle.segment_index.specs.Changes.{Changes}
 use Rattle.store_state.specs.Refused.{blames}
 use Rattle.store_state.proofs.Changed.{changes_none, changes_on, lifted, size_on}
-use Rattle.store_state.proofs.PutBack.{all_back, none_back, one_more_back, there_back}
+use Rattle.store_state.proofs.PutBack.{all_back, if_some, none_back, one_more_back, there_back}
 use Rattle.store_state.proofs.indexing.take_back.Goals as goal
 
 pub loop-left-init : goal.loop-left-init
@@ -25,9 +25,10 @@ give_back-requires-clause-there g c =
     let d : Entry = record { digest = []; offset = 0; length = 0; level = 0 } in
     let within : i < length c.args.entries.now = omega (arith, c.loop-left.invariant.1, c.requires.many.0, c.loop-left-test.true) in
     let more : c.loop-left.left ≡ i + 1 = omega (arith, c.loop-left-test.true) in
-    there_back c.args.kind c.args.entries.now c.args.before.now c.args.count c.loop-left.left i d None within more c.key_in.result c.key_in.ensures.key
+    if_some (get_or c.args.before.now i None) _
+    (there_back c.args.kind c.args.entries.now c.args.before.now c.args.count c.loop-left.left i d None within more c.key_in.result c.key_in.ensures.key
     (g.X.Index.places c.args.index.now (g.D.Disk.view c.args.disk.now).content) (g.X.Index.places c.loop-left.index (g.D.Disk.view c.loop-left.disk).content)
-    c.loop-left.invariant.0
+    c.loop-left.invariant.0)
 
 pub loop-left-preserved : goal.loop-left-preserved
 loop-left-preserved g c =

@@ -176,8 +176,8 @@ pub record AnswersByMap (S : List ℕ → Type 0) (command : CommandLine) (given
   pub left : LeavesBy first S m next old.disk new.disk
   pub bytes : IfOpened first (KeepsBytes command (said lines.Reopen first ∷ rs) m next old.disk new.disk)
 
--- So it is of each call of the command, by what the top call says of it: from each machine at rest for which the content may stand, where no
--- two different data segments have one digest, of a set of those that the disk holds and that are given.
+-- So it is of each call of the command, by what the top call says of it: from each machine at rest for which the content may stand, where
+-- no two different data segments have one digest, of a set of those that the disk holds and that are given.
 abbrev pub AnswersEachCall : (D : Type 0) → (D → DiskView) → CommandLine → Type 0
 AnswersEachCall D view command = (given : List ℕ) (rs : List Replied) (ending : Option Ending) (old new : D)
     (source source_now : SourceView) (sink sink_now : SinkView)

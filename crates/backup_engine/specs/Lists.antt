@@ -102,8 +102,8 @@ pub record ScriptPasses (rs : List Replied) (m next : Stored) : Type 0 where
       (run_of of_files (said lines.Reopen script.first ∷ rs) script.steps (desk (rested m script.store)) script.last script.lines_are)
   pub next_is : next ≡ stored_in found
 
--- A command leads to the map after it, or to the map as it was, as `IsAfter` has it; a `format` of a disk that has a store, words that are no
--- line, and a `check` lead to the map as it was.
+-- A command leads to the map after it, or to the map as it was, as `IsAfter` has it; a `format` of a disk that has a store, words that are
+-- no line, and a `check` lead to the map as it was.
 abbrev pub MayLead : Option TableLine → Call → Stored → Stored → Type 0
 MayLead (Some (Single (Format slots))) c m next = next ≡ m
 MayLead (Some (Single command)) c m next = IsAfter command c.given c.ending (rest m) (rest next)

@@ -111,8 +111,8 @@ IsSealFor given (SealContainer id kind segments) = (offered : List Contents) × 
     × AnyByRecursion (λ c. (kind ≡ c.kind) × (segments ≡ c.segments)) offered
 IsSealFor given change = ⊥
 
--- A write failed: of such containers, some of which may be there; or of the name's record, so that it may be there, or a part of the checkpoint
--- before it.
+-- A write failed: of such containers, some of which may be there; or of the name's record, so that it may be there, or a part of the
+-- checkpoint before it.
 abbrev pub IsBroken : (name given : List ℕ) → Found (List ℕ) → FileMachine → Type 0
 IsBroken name given now n = ((offered : List Contents) × AreOfferedFor given offered
     × (n.state ≡ Stopped None (stores_with_some n.last_id (sealed_in offered n) n.store)))

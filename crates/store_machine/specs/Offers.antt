@@ -70,8 +70,8 @@ module _ {V R : Type 0} where
 
   -- ---- what they make of the machine
 
-  -- A container more, of the next id, in the closed slot of least number. Its segments are kept, beside these pins, needed by the collection
-  -- that runs, and forgotten no more.
+  -- A container more, of the next id, in the closed slot of least number. Its segments are kept, beside these pins, needed by the
+  -- collection that runs, and forgotten no more.
   abbrev pub with_container : ℕ → Contents → PinMap → Machine V R → Machine V R
   with_container actor c pins m = record (put_at m actor (Writing (with_pins c.kind c.segments pins))) {
     store = with_sealed (suc m.last_id) c.kind c.segments m.store;

@@ -33,7 +33,8 @@ pub fn an_image_holds_one_store()
 pub fn sealed_together_keeps_files()
     ensures some { (among : ByteSet) (ps : List Placed) (store : Store) (files : Files) (image new : List ℕ)
         → HasNoCollisions (IsIn among) → MayPlace (IsIn among) ps → CanPlace (last_id store.held) ps store
-        → Stands (IsIn among) store files image → AreLeftSo IsLeft ps image new → (marks : List Bool) × Stands (IsIn among) (with_some marks ps store) files new
+        → Stands (IsIn among) store files image → AreLeftSo IsLeft ps image new
+        → (marks : List Bool) × Stands (IsIn among) (with_some marks ps store) files new
         × KeepsCopies AnyKey store image (with_some marks ps store) new }
     ensures all { (among : ByteSet) (ps : List Placed) (store : Store) (files : Files) (image new : List ℕ)
         → HasNoCollisions (IsIn among) → MayPlace (IsIn among) ps → CanPlace (last_id store.held) ps store

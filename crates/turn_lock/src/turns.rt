@@ -66,7 +66,8 @@ impl<C: Booked> TurnLock<C> {
     // Serves the next ticket, once the value is back in its slot.
     fn pass_on(&self, pass: &mut TurnPass<C>)
         requires pass { pass.old.table_id ≡ lock_id self.now }
-        requires turn { (n : ℕ) × (found : Home C) × (pass.old.me.0.stage ≡ InTurn n found) × (pass.old.me.1 ≡ (0, Some found) ∷ []) }
+        requires turn { (n : ℕ) × (found : Home C) × (pass.old.me.0.stage ≡ InTurn n found)
+            × (pass.old.me.1 ≡ (0, Some found) ∷ []) }
         ensures same { IsSamePass pass.old pass.new }
         ensures rests { pass.new.me ≡ resting pass.old.me.0 pass.old.me.0.seen pass.old.me.0.numbers }
     {

@@ -1,15 +1,16 @@
 -- Steps as contracts see them: what is lent, by its value.
-use Rattle.std.specs.Prelude.{ℕ, ◌≤◌, List, length}
+use Rattle.std.specs.Prelude.{ℕ, List}
 use Rattle.disk_format.specs.Cells.{Root}
 use Rattle.container_meta.specs.Segments.{KindSegment, Contents}
 use Rattle.actor_parts.specs.declared.step.Step as steps
 use Rattle.actor_parts.specs.declared.step.Step.TheVariants as asked
-use Rattle.actor_parts.specs.Segments.{IsStepSegment, AreStepSegments}
+use Rattle.actor_parts.specs.Offers.{AreStepContents, IsOffer}
+use Rattle.actor_parts.specs.Segments.{IsStepSegment}
 
 pub data StepValue : Type 0 where
   Begin : StepValue
   Claim : (seg : KindSegment) → StepValue
-  Seal : (filled : Contents) → StepValue
+  Seal : (offered : List Contents) → StepValue
   Commit : (name : List ℕ) (root : Root) → StepValue
   Abort : StepValue
   OpenRead : (name : List ℕ) → StepValue
@@ -36,8 +37,8 @@ step_value (asked.GcStart percent) = GcStart percent.now
 step_value asked.GcStep = GcStep
 step_value asked.Stat = Stat
 
--- What may be asked: a segment of a tree is a node of its level, and a container holds a segment at least.
+-- What may be asked: a segment of a tree is a node of its level, and containers may be offered together.
 abbrev pub IsStep : StepValue → Type 0
 IsStep (Claim seg) = IsStepSegment seg
-IsStep (Seal filled) = (1 ≤ length filled.segments) × AreStepSegments filled.kind filled.segments
+IsStep (Seal offered) = IsOffer offered × AreStepContents offered
 IsStep step = Unit {0}

@@ -19,7 +19,7 @@ pub use part::{Part, Reader};
 pub use parts::{Parts, parts_are_apart};
 pub use pins::{Pin, Pins};
 pub use seg_buf::SegBuf;
-pub use step::{Answer, Step};
+pub use step::{Answer, MOST_TOGETHER, Step};
 pub use store_calls::StoreCalls;
 pub use tree_seg::node_seg;
 pub use unpinned::{first_unpinned, first_unpinned_in, pin_in, pin_of};

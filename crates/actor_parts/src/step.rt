@@ -5,6 +5,9 @@ use container_meta::{OpenContainer, Seg};
 use namespace::{Listing, Root};
 use refusals::Phase;
 
+/// How many containers may be offered together. More would want more memory, and hardly be faster.
+pub const MOST_TOGETHER: usize = 16;
+
 /// What an actor asks of the store. docs/MODEL.md, 'Actors, steps and answers', says what each does.
 #[derive(Clone, Copy)]
 pub enum Step<'a> {
@@ -12,8 +15,8 @@ pub enum Step<'a> {
     Begin,
     /// To keep a segment that is held.
     Claim { seg: &'a Seg },
-    /// To store a container, which holds a segment at least, and to keep its segments.
-    Seal { filled: &'a OpenContainer },
+    /// To store containers, and to keep their segments: one, or up to `MOST_TOGETHER` of data, each with a segment at least.
+    Seal { filled: &'a [OpenContainer] },
     /// To give a name the root of the file that was stored.
     Commit { name: &'a [u8], root: &'a Root },
     /// To give up the file that is being stored.
@@ -45,9 +48,10 @@ pub enum Answer {
     Held,
     /// No such segment is held.
     Absent,
-    /// The container was stored under this id.
+    /// So many containers were stored, the first of those that were offered, under the next ids: this is the greatest.
     Sealed {
         id: u64,
+        count: usize,
     },
     /// The name has the root, from this sequence number on.
     Committed {

@@ -1,5 +1,5 @@
 -- What a change of a name makes of the tables, of the store that they represent, and of the disk.
-use Rattle.ingest_steps.proofs.Prelude.{◌≡◌, ◌⊎◌, inl, inr, ℕ, suc, ◌-◌, ◌^◌, ◌<◌, Bool, true, false, List, cond, Option, Some, IsSome, refl, sym, ◌∙◌, ap, subst, arith, nat_list_cmp_total, Root, Change, RecordValue, SelectorValue, Delete, Put, half_cells, DiskView, OnlyReads, Ending, Broken, Refused, ending_of, Writes, Moves, reads_leave, moves_written, PlaceMap, NameMap, HasPlace, names_with, Appends, IsAppended, IsCheckpointed, checkpointed, JournalValue, Files, Store, names_of, IsIn, Stands, HasJournal, appended, record_of, with_cell, with_change, with_checkpoint, store_has_cell, cell_here, cell_anew, names_checkpoint, SameButJournal, IsAbove, Refusal, Memory, Numbers, DiskWrite, Tables, Represents, RepresentsNames, MayChange, HasNumbers, IsWriteRefusal, record_after_last, tables_with, ChangesName, RecordsBy, IsRecordedBy, Records, IsRecorded, has_cell}
+use Rattle.ingest_steps.proofs.Prelude.{◌≡◌, ◌⊎◌, inl, inr, ℕ, suc, ◌-◌, ◌^◌, ◌<◌, Bool, true, false, List, cond, Option, Some, IsSome, refl, sym, ◌∙◌, ap, subst, arith, nat_list_cmp_total, Root, Change, RecordValue, SelectorValue, Put, half_cells, DiskView, OnlyReads, Ending, Broken, Refused, ending_of, Writes, Moves, reads_leave, moves_written, PlaceMap, NameMap, HasPlace, names_with, Appends, IsAppended, IsCheckpointed, checkpointed, JournalValue, Files, Store, names_of, IsIn, Stands, HasJournal, appended, record_of, with_cell, with_change, with_checkpoint, store_has_cell, cell_here, cell_anew, names_checkpoint, SameButJournal, IsAbove, Refusal, Memory, Numbers, DiskWrite, Tables, Represents, RepresentsNames, MayChange, HasNumbers, IsWriteRefusal, record_after_last, tables_with, ChangesName, RecordsBy, IsRecordedBy, Records, IsRecorded, has_cell}
 use Rattle.std.proofs.Common.{rules}
 use Rattle.std.specs.FinMap as finite
 use Rattle.std.specs.Cmp.{tied_itself}
@@ -15,7 +15,7 @@ use Rattle.store_model.specs.Steps.{CanChangeName, HoldsFor, change_of, name_of}
 use Rattle.store_model.proofs.Journaled.{with_journal, journal_above, files_above, held_for, change_stands}
 use Rattle.store_model.proofs.Valid.{valid_change}
 use Rattle.store_state.specs.Refused.{blames}
-use Rattle.ingest_steps.specs.Naming.{MayDelete, IsChanged, StandsStill, commanding, changing_journal}
+use Rattle.ingest_steps.specs.Naming.{IsChanged, StandsStill, commanding, changing_journal}
 use Rattle.ingest_steps.proofs.Recorded.{count_of_cell, same_cell, checkpoint_told, record_same, names_told}
 use Rattle.ingest_steps.proofs.Renewed.{alone, append_after, append_between, half_of, checkpoint_after, checkpoint_between}
 
@@ -39,9 +39,6 @@ there_after r names new root put is =
 pub record_is : (t : Tables) (name : List ℕ) (change : Change) (r : RecordValue) (number : ℕ) → r ≡ record { sequence = number; name = name; change = change }
     → number ≡ suc t.journal.last → r ≡ record_after_last t name change
 record_is t name change r number is next = is ∙ ap (λ (n : ℕ). record { sequence = n; name = name; change = change }) next
-
-pub of_delete : (t : Tables) (name : List ℕ) → MayDelete t name → MayChange t name Delete
-of_delete t name may = record { named = may.named; place = may.there }
 
 -- ---- the tables
 

@@ -1,6 +1,6 @@
 -- Pins of several containers, one after the other, and taken back.
-use Rattle.ingest_steps.proofs.Prelude.{◌≡◌, ◌⊎◌, inl, inr, ℕ, suc, List, [], ◌∷◌, ◌++◌, length, take, Option, Some, refl, sym, ◌∙◌, ap, subst, AllByRecursion, IfSome, Contents, Pin, PinMap, IsPin, WereHad, with_pins}
-use Rattle.std.proofs.Common.{zero, slice_get}
+use Rattle.ingest_steps.proofs.Prelude.{◌≡◌, ◌⊎◌, inl, inr, ℕ, suc, List, [], ◌∷◌, ◌++◌, length, take, Option, Some, refl, sym, ◌∙◌, ap, subst, arith, AllByRecursion, IfSome, Contents, Pin, PinMap, IsPin, WereHad, with_pins}
+use Rattle.std.proofs.Common.{zero, slice_get, take_all}
 use Rattle.std.specs.Global.{Vec}
 use Rattle.ingest_steps.specs.Offering.{IsHadOf, WereHadIn, with_pins_of}
 use Rattle.ingest_steps.proofs.PinList.{pins_whole}
@@ -18,6 +18,10 @@ pins_of_next filled pins i n c here is = ap (λ (k : ℕ). with_pins_of (take k 
         same : (a b : Contents) → Some a ≡ Some b → a ≡ b
         same a b is = cc
     one_more (x ∷ xs) pins (suc j) here = one_more xs (with_pins x.kind x.segments pins) j here
+
+-- all of them
+pub pins_of_whole : (filled : List Contents) (pins : PinMap) (n : ℕ) → n ≡ length filled → with_pins_of (take n filled) pins ≡ with_pins_of filled pins
+pins_of_whole filled pins n is = ap (λ (cs : List Contents). with_pins_of cs pins) (ap (λ (k : ℕ). take k filled) is ∙ take_all (length filled) filled (omega arith))
 
 -- what was said of the keys of one of them
 module _ (filled : List Contents) (before : PinMap) (hads : List (Vec (Option Pin))) (were : WereHadIn filled before hads) (i n : ℕ) (c : Contents)

@@ -42,9 +42,6 @@ changes_read place e old new reads = record {
 }
 
 module _ (t : Tables) (known : Option PlaceMap) (placed_in : Store → List Placed) where
-  frame_so : (store : Store) → (old new : DiskView) → Type 0
-  frame_so store old new = ChangesSlotsAlone t.slots (slots_of (placed_in store)) old new
-
   -- some of none
   with_none : (S : List ℕ → Type 0) (ps : List Placed) (store : Store) (files : Files) (c : List ℕ) → Stands S store files c → StandsSome S ps store files c
   with_none S ps store files c has = ([], has)
@@ -219,6 +216,13 @@ pub offer_as : (t : Tables) (slots : List ℕ) (filled first : List Contents) �
 offer_as t slots filled first has is n k = record {
   store_has = λ store keeps valid free.
       ap (λ (cs : List Contents). in_free (t.held.last_id + 1) cs store) (is ∙ ap (λ (m : ℕ). take m filled) ((has n k).store_has store keeps valid free).many);
+}
+
+pub offer_placed : (t : Tables) (slots : List ℕ) (filled first : List Contents) → HasSlots t (length filled) slots → first ≡ take (length slots) filled
+    → length first ≡ length slots → (n : ℕ) (k : Option PlaceMap) → OfEach n k t (λ store. placed slots (t.held.last_id + 1) first ≡ offer_in t filled store)
+offer_placed t slots filled first has is many n k = record {
+  store_has = λ store keeps valid free.
+      (slots_as t (length filled) slots first has many n k).store_has store keeps valid free ∙ (offer_as t slots filled first has is n k).store_has store keeps valid free;
 }
 
 -- whatever was refused, after calls that only read

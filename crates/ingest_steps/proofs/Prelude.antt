@@ -38,9 +38,8 @@ pub use Rattle.disk_format.specs.Layout.{half_cells, slot_at}
 pub use Rattle.disk_format.specs.declared.why.Why.{Why}
 pub use Rattle.ingest_steps.specs.Claiming.{IsClaimRefusal, MayClaim, MayNotClaim, key_of_seg}
 pub use Rattle.ingest_steps.specs.Naming.{ChangesName, HasNumbers, IsWriteRefusal, MayChange, record_after_last, tables_with}
-pub use Rattle.ingest_steps.specs.Pinning.{IsUnkept, MayKeep, WereHad, first_unpinned_of, had_again, with_pins}
+pub use Rattle.ingest_steps.specs.Pinning.{WereHad, first_unpinned_of, had_again, with_pins}
 pub use Rattle.ingest_steps.specs.Recording.{IsRecorded, IsRecordedBy, Records, RecordsBy, has_cell}
-pub use Rattle.ingest_steps.specs.SealStep.{IsStepRefusal}
 pub use Rattle.ingest_steps.specs.Sealing.{ChangesSlotAlone, FitBeside, HasPlacesOf, HasSlot, HasSlotBeside, HasWritten, IsCompared, IsSealRefusal, IsSlotOf, KeepsHeld, SameButSlotOf, SealsCompared, SealsContainer, SealsIndexed, WasCompared, places_with, sealing, sealing_indexed}
 pub use Rattle.ingest_steps.specs.Writers.{IsCommitRefusal, IsUncommitted}
 pub use Rattle.journal_cells.specs.Appending.{Appends, IsAppended, SameButNext}

@@ -1,19 +1,17 @@
 -- Several containers that are offered together: how many of them are sealed, in which slots, and why none is (docs/MODEL.md, 'Claims and
 -- seals').
-use Rattle.std.specs.Prelude.{◌≡◌, ℕ, ◌+◌, ◌-◌, ◌≤◌, min, List, [], ◌∷◌, length, take, slice_get, Option, Some, None, IfSome}
+use Rattle.std.specs.Prelude.{◌≡◌, ℕ, ◌+◌, ◌≤◌, List, [], ◌∷◌, length, take, slice_get, Option, Some, None, IfSome}
 use Rattle.std.specs.Global.{Vec}
 use Rattle.std.specs.List.{AllByRecursion}
-use Rattle.disk_format.specs.declared.numbers.TheConstants.{RESERVE, LAST_ID}
-use Rattle.container_meta.specs.declared.kind.Kind.TheVariants.{Leaf}
 use Rattle.container_meta.specs.declared.place.Place.{Place}
 use Rattle.container_meta.specs.Places.{PlaceMap}
 use Rattle.container_meta.specs.Segments.{Contents}
-use Rattle.container_log.specs.Many.{HaveSegments, placed}
+use Rattle.container_log.specs.Many.{placed}
 use Rattle.actor_parts.specs.declared.part.Part.{Part}
 use Rattle.actor_parts.specs.declared.part.Part.TheVariants.{Writing}
 use Rattle.actor_parts.specs.declared.pins.Pin.{Pin}
+use Rattle.actor_parts.specs.Offers.{sealed_of}
 use Rattle.actor_parts.specs.PinMap.{PinMap, IsPin}
-use Rattle.actor_parts.specs.Segments.{AreStepSegments}
 use Rattle.refusals.specs.declared.refusal.PartKind.TheVariants as kinds
 use Rattle.refusals.specs.declared.refusal.Refusal.{Refusal}
 use Rattle.refusals.specs.declared.refusal.Refusal.TheVariants.{Memory, WrongPart, Unpinned, Full, Numbers, DiskWrite}
@@ -23,29 +21,11 @@ use Rattle.store_model.specs.Together.{Placed}
 use Rattle.store_state.specs.Comparing.{FitSoFar, IsFirstUnlike}
 use Rattle.store_state.specs.declared.tables.Tables.{Tables}
 use Rattle.store_state.specs.Tables.{OfEach, closed_from}
-use Rattle.ingest_steps.specs.declared.offering.TheConstants.{MOST_TOGETHER}
 use Rattle.ingest_steps.specs.Pinning.{WereHad, first_unpinned_of, or_else, with_pins}
 use Rattle.ingest_steps.specs.Sealing.{IsSlotRefusal, IsSealRefusal, WasCompared}
 use Rattle.ingest_steps.specs.Writers.{IsWrongPart}
 
--- ---- what is offered
-
--- One container or more, each with a segment at least; where there are two, all are of data.
-pub record IsOffer (filled : List Contents) : Type 0 where
-  pub some : 1 ≤ length filled
-  pub few : length filled ≤ MOST_TOGETHER
-  pub segments : HaveSegments filled
-  pub leaves : 2 ≤ length filled → AllByRecursion (λ c. c.kind ≡ Leaf) filled
-
--- the segments of each are such as a step takes
-abbrev pub AreStepContents : List Contents → Type 0
-AreStepContents filled = AllByRecursion (λ c. AreStepSegments c.kind c.segments) filled
-
 -- ---- how many are sealed, and where
-
--- Of so many that are offered as many are sealed as leave the slots of the reserve, and as there are ids.
-abbrev pub sealed_of : ℕ → Tables → Store → ℕ
-sealed_of offered t store = min offered (min (free_slots store.held - RESERVE) (LAST_ID - t.held.last_id))
 
 -- containers, under ids from one on, each in the closed slot of least number that those before it leave
 abbrev pub in_free : ℕ → List Contents → Store → List Placed
@@ -53,11 +33,16 @@ in_free id filled store = placed (closed_from 0 store.held) id filled
 
 -- those that are sealed of an offer
 abbrev pub offer_in : Tables → List Contents → Store → List Placed
-offer_in t filled store = in_free (t.held.last_id + 1) (take (sealed_of (length filled) t store) filled) store
+offer_in t filled store = in_free (t.held.last_id + 1) (take (sealed_of (length filled) (free_slots store.held) t.held.last_id) filled) store
+
+-- so many are sealed of so many that are offered, by each store that the tables represent
+abbrev pub IsRoomFor : Tables → ℕ → ℕ → Type 0
+IsRoomFor t offered count = (size : ℕ) (known : Option PlaceMap)
+    → OfEach size known t (λ store. count ≡ sealed_of offered (free_slots store.held) t.held.last_id)
 
 -- as many slots as are sealed of so many, one at least: the closed ones of least number
 pub record AreSlotsOf (t : Tables) (offered : ℕ) (slots : List ℕ) (store : Store) : Type 0 where
-  pub many : length slots ≡ sealed_of offered t store
+  pub many : length slots ≡ sealed_of offered (free_slots store.held) t.held.last_id
   pub some : 1 ≤ length slots
   pub first : slots ≡ take (length slots) (closed_from 0 store.held)
 

@@ -2,16 +2,10 @@
 use Rattle.std.specs.Prelude.{◌≡◌, ℕ, ◌<◌, List, [], ◌∷◌, length, take, get_or, Option, Some, None}
 use Rattle.std.specs.FinMap as finite
 use Rattle.container_meta.specs.declared.kind.Kind.{Kind}
-use Rattle.container_meta.specs.Segments.{Segment, Contents, segment_at, segment_key}
-use Rattle.actor_parts.specs.declared.part.Part.{Part}
-use Rattle.actor_parts.specs.declared.part.Part.TheVariants.{Writing}
+use Rattle.container_meta.specs.Segments.{Segment, segment_at, segment_key}
 use Rattle.actor_parts.specs.declared.pins.Pin.{Pin}
 use Rattle.actor_parts.specs.PinMap.{PinMap}
 use Rattle.actor_parts.specs.Segments.{children_by, first_not_in, pin_by}
-use Rattle.refusals.specs.declared.refusal.PartKind.TheVariants as kinds
-use Rattle.refusals.specs.declared.refusal.Refusal.{Refusal}
-use Rattle.refusals.specs.declared.refusal.Refusal.TheVariants.{WrongPart, Unpinned}
-use Rattle.ingest_steps.specs.Writers.{IsWrongPart}
 
 -- ---- what has to be kept already
 
@@ -23,19 +17,6 @@ or_else None next = next
 abbrev pub first_unpinned_of : Kind → List Segment → PinMap → Option (List ℕ)
 first_unpinned_of kind [] pins = None
 first_unpinned_of kind (s ∷ ss) pins = or_else (first_not_in pins (children_by kind s)) (first_unpinned_of kind ss pins)
-
--- The actor stores a file, and keeps each child of each segment.
-pub record MayKeep (part : Part) (filled : Contents) : Type 0 where
-  pub pins : PinMap
-  pub writing : part ≡ Writing pins
-  pub pinned : first_unpinned_of filled.kind filled.segments pins ≡ None
-
--- why it isn't so, in this order: the part, the first child that it doesn't keep
-abbrev pub IsUnkept : Part → Contents → Refusal → Type 0
-IsUnkept part filled (WrongPart kind) = IsWrongPart kinds.Writing part (WrongPart kind)
-IsUnkept part filled (Unpinned key) =
-    (pins : PinMap) × (part ≡ Writing pins) × (first_unpinned_of filled.kind filled.segments pins ≡ Some key)
-IsUnkept part filled refusal = ⊥
 
 -- ---- what is kept then
 

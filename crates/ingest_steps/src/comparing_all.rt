@@ -53,12 +53,12 @@ pub fn compare_each<D: Disk, X: Index>(
     Ok(befores)
 }
 
-/// Compares containers of data with what is held, all of them, and then indexes them and writes them by two syncs, to the slots that
-/// `slots_for` answered. Answered is the greatest of their ids.
+/// Compares containers with what is held, all of them, and then indexes them and writes them, to the slots that `slots_for`
+/// answered: one of any kind, or several of data, these by two syncs. Answered is the greatest of their ids.
 ///
 /// Refusals, container by container and entry by entry: `DiskRead`, `Corrupt`, `Clash`; then those of `seal_indexed_all`. `Damaged`
 /// comes only where the index's map isn't known.
-pub fn seal_many<D: Disk, X: Index>(
+pub fn seal_some<D: Disk, X: Index>(
     alloc: Global,
     disk: &mut D,
     tables: &mut Tables,
@@ -72,7 +72,7 @@ pub fn seal_many<D: Disk, X: Index>(
     requires slots { (offered : _) × HasSlots tables.old offered slots.now }
     requires many { length filled.now ≡ length slots.now }
     requires there { HaveSegments filled.now }
-    requires leaves { AllByRecursion (λ c. c.kind ≡ Leaf) filled.now }
+    requires leaves { 2 ≤ length filled.now → AllByRecursion (λ c. c.kind ≡ Leaf) filled.now }
     ensures ok { IfOk result (λ id. (id ≡ tables.old.held.last_id + length filled.now)
         × HaveSealed tables.old (D.view disk.old).size (X.places index.old (D.view disk.old).content) filled.now tables.new
         × WereCompared (D.view disk.old).size (X.places index.old (D.view disk.old).content)
@@ -89,41 +89,9 @@ pub fn seal_many<D: Disk, X: Index>(
         (in_free (tables.old.held.last_id + 1) filled.now) (ending blames result) (D.view disk.old) (D.view disk.new) }
     ensures served { X.serves index.new (D.view disk.new).size }
 {
+    if filled.len() == 1 {
+        return seal_compared(alloc, disk, tables, index, slots[0], &filled[0], buf);
+    }
     let befores = compare_each(alloc, disk, index, filled, buf.bytes_mut())?;
     seal_indexed_all(alloc, disk, tables, index, slots, filled, &befores)
-}
-
-/// The same of one container, of any kind.
-pub fn seal_one<D: Disk, X: Index>(
-    alloc: Global,
-    disk: &mut D,
-    tables: &mut Tables,
-    index: &mut X,
-    slots: &[u32],
-    filled: &[OpenContainer],
-    buf: &mut SegBuf,
-) -> Result<u64, Refusal>
-    requires serves { X.serves index.old (D.view disk.old).size }
-    requires state { Runs (D.view disk.old).size None tables.old }
-    requires slots { (offered : _) × HasSlots tables.old offered slots.now }
-    requires many { length filled.now ≡ length slots.now }
-    requires there { HaveSegments filled.now }
-    requires one { length filled.now ≡ 1 }
-    ensures ok { IfOk result (λ id. (id ≡ tables.old.held.last_id + length filled.now)
-        × HaveSealed tables.old (D.view disk.old).size (X.places index.old (D.view disk.old).content) filled.now tables.new
-        × WereCompared (D.view disk.old).size (X.places index.old (D.view disk.old).content)
-        (Shows (D.view disk.old) (D.view disk.new)) filled.now) }
-    ensures map { OnOk result (HasPlacesOfAll (placed slots.now (tables.old.held.last_id + 1) filled.now) (X.places index.old)
-        (X.places index.new) (D.view disk.old).content (D.view disk.new).content) }
-    ensures refused { IfErr result (IsSealRefusal (X.places index.old (D.view disk.old).content)
-        (AreCompared (D.view disk.old).size (X.places index.old (D.view disk.old).content) (Shows (D.view disk.old) (D.view disk.new))
-        filled.now)) }
-    ensures unchanged { OnErr result (tables.new ≡ tables.old) }
-    ensures kept { IfErr result (KeepsMap (X.places index.old (D.view disk.old).content) (X.places index.new (D.view disk.new).content)) }
-    ensures disk { Steps tables.old.slots (ending blames result) (D.view disk.old) (D.view disk.new) }
-    ensures moves { SealsPlaced tables.old (X.places index.old (D.view disk.old).content)
-        (in_free (tables.old.held.last_id + 1) filled.now) (ending blames result) (D.view disk.old) (D.view disk.new) }
-    ensures served { X.serves index.new (D.view disk.new).size }
-{
-    seal_compared(alloc, disk, tables, index, slots[0], &filled[0], buf)
 }

@@ -1,13 +1,11 @@
 //! A container that is compared with what is held, and then sealed.
-ghost use Rattle.std.specs.Prelude.{◌≡◌, ◌+◌, ◌≤◌, length, Some, OnOk, OnErr, IfOk, IfErr};
-ghost use Rattle.base_model.specs.Known.{Known};
+ghost use Rattle.std.specs.Prelude.{◌≡◌, ◌+◌, ◌≤◌, length, OnOk, OnErr, IfOk, IfErr};
 ghost use Rattle.dd_disk.specs.Ending.{ending};
 ghost use Rattle.dd_disk.specs.Shows.{Shows};
-ghost use Rattle.segment_index.specs.Places.{KnownMap};
 ghost use Rattle.store_state.specs.Refused.{blames};
 ghost use Rattle.store_state.specs.Settled.{Steps};
 ghost use Rattle.store_state.specs.Tables.{Runs};
-ghost use Rattle.ingest_steps.specs.Sealing.{HasSlot, HasSealed, HasPlacesOf, WasCompared, IsCompared, SealsCompared, IsSealRefusal, KeepsMap, places_with};
+ghost use Rattle.ingest_steps.specs.Sealing.{HasSlot, HasSealed, HasPlacesOf, WasCompared, IsCompared, SealsCompared, IsSealRefusal, KeepsMap};
 
 use crate::sealing::seal_indexed;
 use actor_parts::SegBuf;

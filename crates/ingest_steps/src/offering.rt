@@ -1,8 +1,10 @@
 //! Containers that are offered together: how many of them are sealed, and in which slots.
-ghost use Rattle.std.specs.Prelude.{◌≡◌, ◌+◌, ◌-◌, ◌<◌, ◌≤◌, ℕ, min, IfOk, IfErr};
-ghost use Rattle.disk_format.specs.declared.numbers.TheConstants.{RESERVE as KEPT, LAST_ID as LAST};
+ghost use Rattle.std.specs.Prelude.{◌≡◌, ◌-◌, ◌<◌, ◌≤◌, ℕ, min, IfOk, IfErr};
+ghost use Rattle.actor_parts.specs.declared.step.TheConstants.{MOST_TOGETHER as MOST};
+ghost use Rattle.actor_parts.specs.Offers.{sealed_of};
+ghost use Rattle.store_model.specs.Slots.{free_slots};
 ghost use Rattle.store_state.specs.Tables.{OfEach, Runs};
-ghost use Rattle.ingest_steps.specs.Offering.{HasSlots, IsSlotsRefusal, sealed_of};
+ghost use Rattle.ingest_steps.specs.Offering.{HasSlots, IsRoomFor, IsSlotsRefusal};
 ghost use Rattle.ingest_steps.specs.Sealing.{HasSlot};
 
 use crate::sealing::slot_for;
@@ -10,9 +12,6 @@ use disk_format::{LAST_ID, RESERVE};
 use refusals::Refusal;
 use std::alloc::Global;
 use store_state::Tables;
-
-/// How many containers may be offered together. More would want more memory, and hardly be faster.
-pub const MOST_TOGETHER: usize = 16;
 
 /// Containers that were sealed together.
 #[derive(Clone, Copy)]
@@ -23,15 +22,13 @@ pub struct SealedTogether {
     pub count: usize,
 }
 
-// How many of so many are sealed, where there is room for one.
-fn room_for(tables: &Tables, offered: usize) -> usize
-    requires runs { (size : _) × (known : _) × Runs size known tables.now }
-    requires room { (slot : _) × HasSlot tables.now slot }
-    requires few { offered ≤ MOST_TOGETHER }
-    ensures { (size : ℕ) (known : _) → OfEach size known tables.now (λ store. result ≡ sealed_of offered tables.now store) }
+/// How many of so many are sealed: as many as leave the slots of the reserve, and as there are ids for.
+pub fn room_for(tables: &Tables, offered: usize) -> usize
+    requires { (size : _) × (known : _) × Runs size known tables.now }
+    ensures { IsRoomFor tables.now offered result }
 {
-    let slots = u64::from(tables.held.free() - RESERVE);
-    let ids = LAST_ID - tables.held.last_id;
+    let slots = u64::from(tables.held.free().saturating_sub(RESERVE));
+    let ids = LAST_ID.saturating_sub(tables.held.last_id);
     (offered as u64).min(slots).min(ids) as usize
 }
 
@@ -41,7 +38,7 @@ fn room_for(tables: &Tables, offered: usize) -> usize
 pub fn slots_for(alloc: Global, tables: &Tables, offered: usize) -> Result<Vec<u32>, Refusal>
     requires runs { (size : _) × (known : _) × Runs size known tables.now }
     requires some { 1 ≤ offered }
-    requires few { offered ≤ MOST_TOGETHER }
+    requires few { offered ≤ MOST }
     ensures slots { IfOk result (λ slots. HasSlots tables.now offered slots.items) }
     ensures refused { IfErr result (λ refusal. (size : ℕ) → IsSlotsRefusal tables.now size refusal) }
 {

@@ -8,9 +8,9 @@ ghost use Rattle.container_meta.specs.Format.{is_length};
 ghost use Rattle.actor_parts.specs.PinMap.{PinMap, IsPin};
 ghost use Rattle.actor_parts.specs.Segments.{AreStepSegments, children_by, first_not_in, pin_by};
 ghost use Rattle.refusals.specs.declared.refusal.Refusal.TheVariants.{Memory};
-ghost use Rattle.ingest_steps.specs.Pinning.{MayKeep, IsUnkept, WereHad, first_unpinned_of, had_again, with_pins};
+ghost use Rattle.ingest_steps.specs.Pinning.{WereHad, first_unpinned_of, had_again, with_pins};
 
-use actor_parts::{Part, Pin, Pins, first_unpinned_in, pin_in};
+use actor_parts::{Pin, Pins, first_unpinned_in, pin_in};
 use container_meta::{Entry, Key, OpenContainer, key_of};
 use refusals::Refusal;
 use std::alloc::{AllocError, Global};
@@ -52,21 +52,6 @@ pub(crate) fn first_unpinned(pins: &Pins, filled: &OpenContainer) -> Option<Key>
         }
     }
     None
-}
-
-/// Refuses a container by what the actor is at, and by the children of its segments, in this order.
-pub fn may_keep(part: &Part, filled: &OpenContainer) -> Result<(), Refusal>
-    requires { AreStepSegments filled.now.kind filled.now.segments }
-    ensures may { OnOk result (MayKeep part.now filled.now) }
-    ensures refused { IfErr result (IsUnkept part.now filled.now) }
-{
-    match part {
-        Part::Writing(pins) => match first_unpinned(pins, filled) {
-            None => Ok(()),
-            Some(key) => Err(Refusal::Unpinned { key }),
-        },
-        _ => Err(Refusal::WrongPart { part: part.kind() }),
-    }
 }
 
 // The key of a segment of a container.

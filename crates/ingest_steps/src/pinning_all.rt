@@ -1,15 +1,13 @@
 //! What an actor keeps of containers that it seals together.
 ghost use Rattle.std.specs.Prelude.{◌≡◌, ◌≤◌, length, take, vec_len, vec_capacity, ◌<◌, ◌++◌, ◌∷◌, [], OnOk, OnErr, IfOk, IfErr};
 ghost use Rattle.actor_parts.specs.declared.part.Part.TheVariants.{Writing};
-ghost use Rattle.actor_parts.specs.Kinds.{kind_of};
-ghost use Rattle.actor_parts.specs.Parts.{part_of, with_part};
+ghost use Rattle.actor_parts.specs.Offers.{AreStepContents};
 ghost use Rattle.actor_parts.specs.PinMap.{PinMap};
-ghost use Rattle.refusals.specs.declared.refusal.PartKind.TheVariants as kinds;
 ghost use Rattle.refusals.specs.declared.refusal.Refusal.TheVariants.{Memory};
-ghost use Rattle.ingest_steps.specs.Offering.{AreStepContents, IsUnkeptIn, MayKeepAll, WereHadIn, first_unpinned_in, with_pins_of};
+ghost use Rattle.ingest_steps.specs.Offering.{IsUnkeptIn, MayKeepAll, WereHadIn, first_unpinned_in, with_pins_of};
 
 use crate::pinning::{first_unpinned, pin_all, unpin};
-use actor_parts::{Actor, Part, Parts, Pin, Pins};
+use actor_parts::{Part, Pin, Pins};
 use container_meta::{Key, OpenContainer};
 use refusals::Refusal;
 use std::alloc::Global;

@@ -13,11 +13,10 @@ ghost use Rattle.store_state.specs.Refused.{blames};
 ghost use Rattle.container_meta.specs.Places.{PlaceMap};
 ghost use Rattle.container_meta.specs.Segments.{bytes_in, entries_from};
 ghost use Rattle.container_meta.specs.Spelling.{IsHeader, header_digest, header_of};
-ghost use Rattle.segment_index.specs.Places.{KnownMap};
 ghost use Rattle.store_state.specs.Indexing.{IsChangeRefusal, AreHad};
 ghost use Rattle.store_state.specs.Settled.{Steps};
 ghost use Rattle.store_state.specs.Tables.{Runs};
-ghost use Rattle.ingest_steps.specs.Sealing.{HasSlot, HasSlotBeside, IsSlotRefusal, SealsContainer, SealsIndexed, HasWritten, HasPlacesOf, ChangesSlotAlone, places_with};
+ghost use Rattle.ingest_steps.specs.Sealing.{HasSlot, HasSlotBeside, IsSlotRefusal, SealsContainer, SealsIndexed, HasWritten, HasPlacesOf, ChangesSlotAlone};
 
 use container_log::seal;
 use container_meta::{OpenContainer, Place};

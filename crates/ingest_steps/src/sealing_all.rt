@@ -1,5 +1,5 @@
 //! Containers of data that are sealed together: what of it needs no actor.
-ghost use Rattle.std.specs.Prelude.{◌≡◌, ◌+◌, ◌<◌, ◌≤◌, ℕ, List, Option, true, length, slice_get, None, Some, Err, OnErr, OnOk, IfOk, IfErr};
+ghost use Rattle.std.specs.Prelude.{◌≡◌, ◌+◌, ◌<◌, ℕ, List, Option, true, length, None, Err, OnErr, OnOk, IfOk, IfErr};
 ghost use Rattle.std.specs.List.{AllByRecursion};
 ghost use Rattle.base_model.specs.Known.{Known, KnownWith};
 ghost use Rattle.container_log.specs.Many.{AreDigests, AreSealed, AreSlots, HaveSegments, NoSlot, SealsAll, placed};
@@ -29,7 +29,7 @@ use crate::sealing::{data_bytes, next_id};
 use container_log::{seal_all, sealed_one_by_one};
 use container_meta::{OpenContainer, Place};
 use dd_disk::Disk;
-use disk_format::{LAST_ID, SLOT_BYTES};
+use disk_format::SLOT_BYTES;
 use refusals::Refusal;
 use segment_index::Index;
 use std::alloc::{AllocError, Global};

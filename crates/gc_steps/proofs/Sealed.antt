@@ -101,8 +101,3 @@ sealed held t now c slot h free headers right was is last next spare under =
     sealed_on t now c slot h.id (count_of (Some h)) (slot_closed held t now slot h free was is) (omega (arith, under.began, next)) (ids_set held t now slot h free was is)
     (counts_set held t now slot h free was is) spare (free_less held t now slot h free was is headers right)
     (λ sweeping. sealed_by_other held t now c.snapshot c.sweep slot h free headers right was is spare sweeping) (omega (arith, last)) under
-
--- So it leaves the slots of the reserve closed.
-pub room_on : (held : List (Option HeaderValue)) (t now : SlotTable) (slot : ℕ) (h : HeaderValue) → IsFirstFree slot held → AreHeaders held → IsHeader h → RepresentsSlots held t
-    → RepresentsSlots (with_slot slot h held) now → RESERVE < free_in t → RESERVE ≤ free_in now
-room_on held t now slot h free headers right was is spare = omega (arith, spare, free_less held t now slot h free was is headers right)

@@ -11,7 +11,7 @@ pub gc_or_not : (step : StepValue) → (step ≡ asked.GcStep) ⊎ IsNoGcStep st
 gc_or_not asked.GcStep = inl refl
 gc_or_not asked.Begin = inr tt
 gc_or_not (asked.Claim seg) = inr tt
-gc_or_not (asked.Seal filled) = inr tt
+gc_or_not (asked.Seal offered) = inr tt
 gc_or_not (asked.Commit name root) = inr tt
 gc_or_not asked.Abort = inr tt
 gc_or_not (asked.OpenRead name) = inr tt
@@ -27,7 +27,7 @@ changes_same : (step : StepValue) (answer : Result Answer Refusal) → IsNoGcSte
 changes_same asked.GcStep answer other = absurd other
 changes_same asked.Begin answer other = refl
 changes_same (asked.Claim seg) answer other = refl
-changes_same (asked.Seal filled) answer other = refl
+changes_same (asked.Seal offered) answer other = refl
 changes_same (asked.Commit name root) answer other = refl
 changes_same asked.Abort answer other = refl
 changes_same (asked.OpenRead name) answer other = refl

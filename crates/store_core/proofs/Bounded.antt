@@ -1,5 +1,5 @@
 -- How many steps a collection takes.
-use Rattle.store_core.proofs.Prelude.{inl, inr, ◌≡◌, ◌≤◌, ℕ, ◌+◌, ◌*◌, List, [], ◌∷◌, length, Option, Some, None, Result, Ok, Err, Vec, Global, refl, sym, ◌∙◌, ap, subst, arith, Answer, StepValue, header_of, LiveKeys, Collection, Stage, Filter, Mark, Select, Flush, Release, End, Did, IsToChoose, Keeps, StepsTo, Nears, steps_to_come, IsUnderWay, Refusal, first_free, IsFirstFree, SlotTable, Tables, Stop, IsNoEnd, NoneEnds, starts, Collects, GcRow, GoesOn, IsKeptKey, MarksIn, StartRow, at_moment, Effect, KeepsTables, Row, Steps, StepsOr, next_id, CoreRun, CoreState, Event, IsRunning, IsUnderWayIn, IsUp, UnlessStopped}
+use Rattle.store_core.proofs.Prelude.{inl, inr, ◌≡◌, ◌≤◌, ℕ, ◌+◌, ◌*◌, List, [], ◌∷◌, length, Option, Some, None, Result, Ok, Err, Vec, Global, refl, sym, ◌∙◌, ap, subst, arith, Answer, StepValue, LiveKeys, Collection, Stage, Filter, Mark, Select, Flush, Release, End, Did, IsToChoose, Keeps, StepsTo, Nears, steps_to_come, IsUnderWay, Refusal, SlotTable, Tables, Stop, IsNoEnd, NoneEnds, starts, Collects, GcRow, GoesOn, IsKeptKey, MarksIn, StartRow, at_moment, Effect, KeepsTables, Row, Steps, StepsOr, CoreRun, CoreState, Event, IsRunning, IsUnderWayIn, IsUp, UnlessStopped}
 use Rattle.actor_parts.specs.declared.step.Answer.TheVariants as answers
 use Rattle.actor_parts.specs.StepValue as asked
 use Rattle.container_meta.specs.Segments.{Contents}
@@ -7,20 +7,20 @@ use Rattle.gc_steps.specs.declared.collection.Stage.TheVariants.{Sweep}
 use Rattle.gc_sweep.specs.declared.sweep.Next.{Next}
 use Rattle.gc_sweep.specs.declared.sweep.Next.TheVariants.{Copy}
 use Rattle.gc_steps.specs.StepsToCome.{old_from, trees_from}
-use Rattle.gc_steps.proofs.NoNearer.{as_many}
 use Rattle.refusals.specs.declared.refusal.Refusal.TheVariants as refusals
 use Rattle.store_core.specs.Bounds.{BoundsSteps, made_by, made_in}
 use Rattle.store_core.specs.Collecting.{Begins}
+use Rattle.std.specs.Prelude.{take}
 use Rattle.store_core.proofs.AtStore.{same_some}
 use Rattle.store_core.proofs.CoreRuns.{running_step}
-use Rattle.store_core.proofs.RunningOn.{commit_held, delete_held, first_closed, first_within, step_runs, tables_kept}
+use Rattle.store_core.proofs.RunningOn.{commit_held, delete_held, sealed_last, sealed_some, sealed_under, step_runs, tables_kept}
 
 -- no step that was refused was made
 refused_none : (step : StepValue) (refusal : Refusal) → made_by step (Err refusal) ≡ 0
 refused_none asked.GcStep refusal = refl
 refused_none asked.Begin refusal = refl
 refused_none (asked.Claim seg) refusal = refl
-refused_none (asked.Seal filled) refusal = refl
+refused_none (asked.Seal offered) refusal = refl
 refused_none (asked.Commit name root) refusal = refl
 refused_none asked.Abort refusal = refl
 refused_none (asked.OpenRead name) refusal = refl
@@ -86,30 +86,17 @@ module _ (old new : CoreState) (b : Collection) (ran : old.collection ≡ Some b
     under : IsUnderWay old.tables.held b
     under = subst (IsUnderWayIn old.tables.held) ran up.under_way
 
-    -- a container that is sealed
-    sealed_steps : (filled : Contents) (id actor : ℕ) (buf : List ℕ) → Row (asked.Seal filled) actor (Ok (answers.Sealed id)) buf old new
-        → Effect (asked.Seal filled) (Ok (answers.Sealed id)) old new
-        → (chosen : ℕ) → steps_to_come chosen new.tables.held b ≡ steps_to_come chosen old.tables.held b
-    sealed_steps filled id actor buf row effect chosen =
-        let s = up.runs.store in
-        let now = effect.made.alone.store_has s up.runs.represents up.runs.valid up.runs.has_free in
-        let first : IsFirstFree (first_free s.held) s.held = record {
-          first = refl;
-          within = first_within s.held up.runs.has_free;
-          closed = first_closed s.held up.runs.has_free;
-        } in
-        as_many s.held old.tables.held new.tables.held b (first_free s.held)
-        (header_of (next_id old) filled.kind filled.segments) chosen first up.runs.represents.slots_hold now.represents.slots_hold (omega arith) under
-
-    seal_leaves : (filled : Contents) (answer : Result Answer Refusal) (actor : ℕ) (buf : List ℕ) → Row (asked.Seal filled) actor answer buf old new
-        → Effect (asked.Seal filled) answer old new
-        → Collects (asked.Seal filled) answer old new → Leaves (asked.Seal filled) answer b old new
-    seal_leaves filled (Ok (answers.Sealed id)) actor buf row effect collects =
-        marked (asked.Seal filled) (Ok (answers.Sealed id)) (IsKeptKey (asked.Seal filled) (Ok (answers.Sealed id))) refl collects (sealed_steps filled id actor buf row effect)
-    seal_leaves filled (Err refusal) actor buf row effect collects =
-        marked (asked.Seal filled) (Err refusal) (IsKeptKey (asked.Seal filled) (Err refusal)) refl collects
+    seal_leaves : (offered : List Contents) (answer : Result Answer Refusal) (actor : ℕ) (buf : List ℕ) → Row (asked.Seal offered) actor answer buf old new
+        → Effect (asked.Seal offered) answer old new
+        → Collects (asked.Seal offered) answer old new → Leaves (asked.Seal offered) answer b old new
+    seal_leaves offered (Ok (answers.Sealed id count)) actor buf row effect collects =
+        marked (asked.Seal offered) (Ok (answers.Sealed id count)) (IsKeptKey (asked.Seal offered) (Ok (answers.Sealed id count))) refl collects
+        (sealed_under (take count offered) old new up.runs effect.made (sealed_some offered id count actor old new row)
+        (sealed_last offered id count actor old new row) b under).steps
+    seal_leaves offered (Err refusal) actor buf row effect collects =
+        marked (asked.Seal offered) (Err refusal) (IsKeptKey (asked.Seal offered) (Err refusal)) refl collects
         (same_steps (ap (λ (t : Tables). t.held) (tables_kept old new refusal effect.kept)))
-    seal_leaves filled answer actor buf row effect collects = absurd row
+    seal_leaves offered answer actor buf row effect collects = absurd row
 
   start_leaves : (percent : ℕ) (answer : Result Answer Refusal) → StartRow percent answer old new → KeepsTables old new → Leaves (asked.GcStart percent) answer b old new
   start_leaves percent (Ok (answers.Started snapshot)) row tables = absurd (let wrong : None ≡ Some b = sym row.0.none_ran ∙ ran in cc)
@@ -191,7 +178,7 @@ module _ (old new : CoreState) (b : Collection) (ran : old.collection ≡ Some b
   step_leaves actor buf asked.Begin answer up goes_on row effect collects = kept asked.Begin answer refl (ap (λ (t : Tables). t.held) effect.tables.tables_are) collects
   step_leaves actor buf (asked.Claim seg) answer up goes_on row effect collects =
       marked (asked.Claim seg) answer (IsKeptKey (asked.Claim seg) answer) refl collects (same_steps (ap (λ (t : Tables). t.held) effect.tables.tables_are))
-  step_leaves actor buf (asked.Seal filled) answer up goes_on row effect collects = seal_leaves up filled answer actor buf row effect collects
+  step_leaves actor buf (asked.Seal offered) answer up goes_on row effect collects = seal_leaves up offered answer actor buf row effect collects
   step_leaves actor buf (asked.Commit name root) answer up goes_on row effect collects = kept (asked.Commit name root) answer refl
       (commit_held old new name root actor answer row effect) collects
   step_leaves actor buf asked.Abort answer up goes_on row effect collects = kept asked.Abort answer refl (ap (λ (t : Tables). t.held) effect.tables.tables_are) collects

@@ -1,5 +1,5 @@
 -- What a commit or a delete makes of a core.
-use Rattle.store_core.proofs.Prelude.{some_same, ◌≡◌, ◌≤◌, ℕ, List, Option, Some, Ok, sym, ◌∙◌, subst, ap, arith, None, Known, KnownWith, Change, Root, Delete, Put, PlaceMap, IsLater, IsDurable, Done, Reads, Answer, Store, Encodes, IsValidFor, HasKey, AnyKey, ChangeName, KeepsCopies, with_change, Tables, Represents, Runs, record_alone, IndexesAll, Made, NamesOne, CoreState}
+use Rattle.store_core.proofs.Prelude.{some_same, ◌≡◌, ◌≤◌, ℕ, List, [], ◌∷◌, Option, Some, Ok, refl, sym, ◌∙◌, subst, ap, arith, None, Known, KnownWith, Change, Root, Delete, Put, PlaceMap, IsLater, IsDurable, Done, Reads, Answer, Store, Encodes, IsValidFor, HasKey, AnyKey, ChangeName, KeepsCopies, with_change, Tables, Represents, Runs, record_alone, IndexesAll, Made, NamesOne, CoreState}
 use Rattle.std.specs.FinMap as finite
 use Rattle.dd_disk.specs.Moves.{Acts}
 use Rattle.actor_parts.specs.declared.step.Answer.TheVariants as answers
@@ -14,9 +14,9 @@ use Rattle.store_core.specs.Core.{Makes, GivesHeld}
 
 module _ (old new : CoreState) (name : List ℕ) (change : Change) (sequence : ℕ) (named : IsChanged old.tables name change new.tables sequence) (later : IsLater old.disk new.disk)
     (index : new.known ≡ old.known) where
-  pub makes_change : Makes (ChangeName name change) old new
+  pub makes_change : Makes (ChangeName name change ∷ []) old new
   makes_change = record {
-    can = record { store_has = λ store represents valid free. (named.can store represents.names_are, named.right) };
+    can = record { store_has = λ store represents valid free. ((named.can store represents.names_are, named.right), refl) };
     represents = record {
       store_has = λ store represents valid free. subst (λ (known : Option PlaceMap). Represents (with_change name change store) known new.tables) (sym index)
           (named.represents store old.known valid.follow represents);
@@ -27,11 +27,11 @@ module _ (old new : CoreState) (name : List ℕ) (change : Change) (sequence : �
     };
     tells = λ places is. (places, index ∙ is);
     keeps_keys = λ before is after after_is key has. subst (λ (m : PlaceMap). HasKey m key) (some_same before after (sym is ∙ sym index ∙ after_is)) has;
-    adds_keys = λ before is after after_is. tt;
+    adds_keys = λ before is after after_is. (tt, tt);
     keeps_others = λ before is after after_is key none. ap (λ (m : PlaceMap). finite.get m key) (some_same after before (sym after_is ∙ index ∙ is));
     alone = record {
       store_has = λ store represents valid free. record {
-        can = (named.can store represents.names_are, named.right);
+        can = ((named.can store represents.names_are, named.right), refl);
         represents = named.represents store None valid.follow represents;
         valid = subst (λ (size : ℕ). IsValidFor size (with_change name change store)) (sym later.size_is)
             (valid_change old.disk.size name change store valid (named.can store represents.names_are) named.right);

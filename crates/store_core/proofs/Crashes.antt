@@ -1,5 +1,5 @@
 -- What a crash leaves at any moment of a step.
-use Rattle.store_core.proofs.Prelude.{stored_with, ◌≡◌, ◌⊎◌, inl, inr, ℕ, false, List, ◌+◌, ◌<◌, ◌≤◌, Option, Some, None, Result, Ok, Err, refl, sym, ◌∙◌, subst, arith, ap, suc, OnlyReads, CrashLeaves, SteppedFrom, reads_leave, leaves_weaker, Change, Root, Delete, Put, Answer, StepValue, IsStep, Refusal, HasNoCollisions, ByteSet, IsIn, Stands, Store, last_sequence, with_sealed, with_change, Files, Stored, with_stored, without_stored, last_changed, Stop, Effect, SealsOne, NamesOne, StepsOr, next_id, FileEvent, FileStep, IsAt, IsGivenRight, IsSafeIn, CoreState, IsUnderWayIn, Mark, Filter, Select, SweepStage, CopyNext, Flush, Release, End, Changes, SameBefore, Collection, HoldsAt, HasStage, IsUnderWay, HoldsSweep, slot_in_turn, IsSweeping, IsSafeAt, PlaceMap, Represents, Stage, Touches, TouchesBy, blames, ending, Ending, slot_at, with_freed, RESERVE, header_of, HasKey, free_slots, free_less, StandsSealed, free_reserve, reserve_by, headers_of_right, reached_less, reached_put, HasReserve, IsReachable, CanBeOpened, CoreInvariant, IndexesFiles}
+use Rattle.store_core.proofs.Prelude.{stored_with, ◌≡◌, ◌⊎◌, inl, inr, ℕ, false, List, ◌+◌, ◌≤◌, Option, Some, None, Result, Ok, Err, refl, sym, ◌∙◌, subst, arith, ap, suc, OnlyReads, CrashLeaves, SteppedFrom, reads_leave, leaves_weaker, Change, Root, Delete, Put, Answer, StepValue, IsStep, Refusal, HasNoCollisions, ByteSet, IsIn, Stands, Store, last_sequence, with_sealed, with_change, Files, Stored, with_stored, without_stored, last_changed, Stop, Effect, SealsSome, NamesOne, StepsOr, next_id, FileEvent, FileStep, IsAt, IsGivenRight, IsSafeIn, CoreState, IsUnderWayIn, Mark, Filter, Select, SweepStage, CopyNext, Flush, Release, End, Changes, SameBefore, Collection, HoldsAt, HasStage, IsUnderWay, HoldsSweep, slot_in_turn, IsSweeping, IsSafeAt, PlaceMap, Represents, Stage, Touches, TouchesBy, blames, ending, Ending, slot_at, with_freed, RESERVE, HasKey, free_slots, free_reserve, reserve_by, headers_of_right, reached_less, reached_put, HasReserve, IsReachable, CanBeOpened, CoreInvariant, IndexesFiles}
 use Rattle.container_meta.specs.Segments.{Contents}
 use Rattle.actor_parts.specs.StepValue as asked
 use Rattle.refusals.specs.declared.refusal.Refusal.TheVariants as refusals
@@ -11,7 +11,15 @@ use Rattle.store_model.specs.Files.{with_file, without_file}
 use Rattle.store_model.specs.Files as files
 use Rattle.store_core.specs.Runs.{IsRootOf}
 use Rattle.gc_sweep.specs.declared.sweep.Next.{Next}
-use Rattle.store_core.proofs.KeepingFiles.{may_seal_all}
+use Rattle.std.proofs.lemmas.List.{length-take}
+use Rattle.std.specs.Prelude.{Bool, zero, ◌-◌, length, take}
+use Rattle.actor_parts.specs.Offers.{sealed_of}
+use Rattle.store_model.specs.Together.{Placed, StandsSome, with_some}
+use Rattle.store_model.proofs.Together.{free_left}
+use Rattle.store_state.specs.Tables.{closed_from}
+use Rattle.ingest_steps.specs.Offering.{in_free, offer_in}
+use Rattle.store_core.proofs.KeepingFiles.{may_offer, may_seal_each}
+use Rattle.store_core.proofs.ManySealed.{few_placed, last_some, none_placed, some_of_none}
 use Rattle.gc_sweep.specs.Releasing.{GivesBack}
 use Rattle.gc_sweep.specs.Releasing.{HasNoEntryIn}
 use Rattle.gc_sweep.proofs.Holds.{in_turn}
@@ -85,28 +93,34 @@ module _ (among : ByteSet) (s : Store) (stored : Stored) (old new : CoreState) (
   by_reads : (step : StepValue) (answer : Result Answer Refusal) → OnlyReads old.disk new.disk → CrashLeaves (Either S step answer bytes stored) old.disk new.disk
   by_reads step answer reads = reads_leave (Either S step answer bytes stored) old.disk new.disk (λ c is. inl (of_old c is)) reads
 
-  -- a container more leaves two closed slots, where there was one to spare
-  pub opens_sealed : (filled : Contents) → RESERVE < free_slots s.held → CanBeOpened (with_sealed (next_id old) filled.kind filled.segments s) stored.files
-  opens_sealed filled spare =
-      free_reserve (IsReachable stored.files) (with_sealed (next_id old) filled.kind filled.segments s).held
-      (omega (arith, spare, free_less (header_of (next_id old) filled.kind filled.segments) s.held (omega (arith, spare))))
+  -- whichever of the containers stand, two slots are left, where there was room for one
+  pub opens_some : (offered : List Contents) (marks : List Bool) → CanBeOpened (with_some marks (offer_in old.tables offered s) s) stored.files
+  opens_some offered marks = by_room (sealed_of (length offered) (free_slots s.held) old.tables.held.last_id) (omega arith)
+    where
+      by_room : (n : ℕ) → n ≤ free_slots s.held - RESERVE → CanBeOpened (with_some marks (in_free (next_id old) (take n offered) s) s) stored.files
+      by_room zero few = subst (λ (ps : List Placed). CanBeOpened (with_some marks ps s) stored.files) (sym (none_placed (closed_from 0 s.held) (next_id old)))
+          (subst (λ (t : Store). CanBeOpened t stored.files) (sym (some_of_none marks s)) opens)
+      by_room (suc n) few =
+          let ps : List Placed = in_free (next_id old) (take (suc n) offered) s in
+          free_reserve (IsReachable stored.files) (with_some marks ps s).held
+          (free_left RESERVE marks ps s
+          (omega (arith, few, few_placed (closed_from 0 s.held) (next_id old) (take (suc n) offered), length-take (suc n) offered)))
 
-  pub seal_leaves : (filled : Contents) (answer : Result Answer Refusal) → SealsOne filled answer old new → IsStep (asked.Seal filled) →
-      IsGivenRight S (asked.Seal filled) answer bytes old
-      → CrashLeaves (λ c. Stands S s stored.files c ⊎ StandsSealed S (next_id old) filled s stored.files c) old.disk new.disk
-  seal_leaves filled answer effect right given =
+  pub seal_leaves : (offered : List Contents) (answer : Result Answer Refusal) → SealsSome offered answer old new → IsStep (asked.Seal offered) →
+      IsGivenRight S (asked.Seal offered) answer bytes old
+      → CrashLeaves (StandsSome S (offer_in old.tables offered s) s stored.files) old.disk new.disk
+  seal_leaves offered answer effect right given =
       (effect.moves.moves among s stored.files at.index at.index_known at.represents core.files_are_indexed distinct
-      (may_seal_all S filled.kind filled.segments right.1 given) at.stands).leaves
+      (may_offer S old.tables offered s (may_seal_each S offered right.1 given)) at.stands).leaves
 
-  by_seal : (filled : Contents) (answer : Result Answer Refusal) → SealsOne filled answer old new → IsStep (asked.Seal filled) → IsGivenRight S (asked.Seal filled) answer bytes old
-      → CrashLeaves (Either S (asked.Seal filled) answer bytes stored) old.disk new.disk
-  by_seal filled answer effect right given =
-      leaves_weaker (λ c. Stands S s stored.files c ⊎ StandsSealed S (next_id old) filled s stored.files c) (Either S (asked.Seal filled) answer bytes stored) old.disk new.disk
-      (λ c stands. elim stands [
-        | inl is ↦ inl (image_of s c opens last_here is)
-        | inr is ↦ inl (image_of (with_sealed (next_id old) filled.kind filled.segments s) c (opens_sealed filled is.0) last_here is.1)
-      ])
-      (seal_leaves filled answer effect right given)
+  by_seal : (offered : List Contents) (answer : Result Answer Refusal) → SealsSome offered answer old new → IsStep (asked.Seal offered)
+      → IsGivenRight S (asked.Seal offered) answer bytes old
+      → CrashLeaves (Either S (asked.Seal offered) answer bytes stored) old.disk new.disk
+  by_seal offered answer effect right given =
+      let ps : List Placed = offer_in old.tables offered s in
+      leaves_weaker (StandsSome S ps s stored.files) (Either S (asked.Seal offered) answer bytes stored) old.disk new.disk
+      (λ c stands. inl (image_of (with_some stands.0 ps s) c (opens_some offered stands.0) (last_some stands.0 ps s ∙ last_here) stands.1))
+      (seal_leaves offered answer effect right given)
 
   -- of a commit that came to its first write
   pub put_leaves : (name : List ℕ) (root : Root) (answer : Result Answer Refusal) → NamesOne name (Put root) answer old new → IsRootOf root bytes old
@@ -285,7 +299,7 @@ module _ (among : ByteSet) (s : Store) (stored : Stored) (old new : CoreState) (
       → CrashLeaves (Either S step answer bytes stored) old.disk new.disk
   by_effect asked.Begin answer effect right given = by_reads asked.Begin answer effect.disk.only
   by_effect (asked.Claim seg) answer effect right given = by_reads (asked.Claim seg) answer effect.disk.only
-  by_effect (asked.Seal filled) answer effect right given = by_seal filled answer effect right given
+  by_effect (asked.Seal offered) answer effect right given = by_seal offered answer effect right given
   by_effect (asked.Commit name root) answer effect right given = by_commit name root answer effect given
   by_effect asked.Abort answer effect right given = by_reads asked.Abort answer effect.disk.only
   by_effect (asked.OpenRead name) answer effect right given = by_reads (asked.OpenRead name) answer effect.disk.only

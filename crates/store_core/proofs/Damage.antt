@@ -1,8 +1,10 @@
 -- No step of a core that is at a store finds damage, or misses what a file needs.
 use Rattle.store_core.proofs.Prelude.{some_same, ◌≡◌, ◌≢◌, ◌<◌, ℕ, zero, suc, List, [], ◌∷◌, length, Option, Some, None, Result, Ok, Err, refl, sym, ◌∙◌, ap, subst, arith, AllByRecursion, sha256, key_of, Shows, shown_content, Kind, Place, kind_byte, Segment, KindSegment, Root, Top, NameMap, Answer, StepValue, Refusal, HasNoCollisions, ByteSet, IsIn, IsAmong, Stands, Stored, Store, names_of, newest, bytes_at, copy_digest, newest_so, IsNodeEntry, nodes_so, IsAmongThese, among_so, Stop, Row, ClaimRow, SealRow, CommitRow, OpenRow, ReadRow, EndRow, DeleteRow, ListRow, IsNotGiven, StepsOr, FileEvent, FileStep, IsAt, IsGivenRight, IsSafeIn, CoreState, IsUnderWayIn, Collection, Filter, Mark, Select, GcRow, IsNotMade, StartRow, IsSafeAt, PlaceMap, Represents, Stage, moment, IsStepRefusal, Memory, roots_of}
 use Rattle.std.proofs.Common.{get_or, option_map, IfErr}
+use Rattle.std.specs.Prelude.{slice_get, take}
 use Rattle.container_meta.specs.declared.kind.Kind.TheVariants as kinds
 use Rattle.container_meta.specs.Segments.{Contents, segment_at}
+use Rattle.actor_parts.specs.Offers.{IsOffer}
 use Rattle.actor_parts.specs.StepValue as asked
 use Rattle.refusals.specs.declared.refusal.PartKind.{PartKind}
 use Rattle.refusals.specs.declared.refusal.PartKind.TheVariants as part
@@ -14,7 +16,10 @@ use Rattle.store_model.proofs.Roots.{length_of_copy}
 use Rattle.store_state.specs.Comparing.{IsUnlike}
 use Rattle.read_steps.specs.Readers.{IsStuck}
 use Rattle.read_steps.specs.Walking.{IsHeldAnswer}
+use Rattle.ingest_steps.specs.Offering.{IsFirstUnlikeIn}
 use Rattle.store_core.specs.Core.{IsAtOther}
+use Rattle.store_core.specs.Runs.{AreAmong}
+use Rattle.store_core.proofs.ManySealed.{all_taken}
 use Rattle.store_core.proofs.OwnParts.{stuck_held}
 use Rattle.gc_steps.specs.declared.collection.Stage.TheVariants.{Sweep}
 use Rattle.gc_steps.proofs.NoDamage.{IsClean, no_damage, IsMarked}
@@ -42,10 +47,17 @@ pub record HoldsTwin (filled : Contents) : Type 0 where
   pub within : number < length filled.segments
   pub is_twin : IsTwin filled.kind (segment_at filled.segments number).bytes
 
+-- one of some containers holds one
+pub record OneHoldsTwin (offered : List Contents) : Type 0 where
+  pub place : ℕ
+  pub contents : Contents
+  pub contents_are : slice_get offered place ≡ Some contents
+  pub twin : HoldsTwin contents
+
 -- when a step may clash: never by data
 abbrev pub MayClash : StepValue → Type 0
 MayClash (asked.Claim seg) = IsTwin seg.kind seg.segment.bytes
-MayClash (asked.Seal filled) = HoldsTwin filled
+MayClash (asked.Seal offered) = OneHoldsTwin offered
 MayClash step = ⊥
 
 -- nothing is damaged or missing, and a clash is so
@@ -70,6 +82,32 @@ all_at : (P : Segment → Type 0) (segments : List Segment) (number : ℕ) → n
 all_at P [] number within all = absurd (omega (arith, within))
 all_at P (s ∷ ss) zero within all = all.0
 all_at P (s ∷ ss) (suc number) within all = all_at P ss number (omega (arith, within)) all.1
+
+all_got : (P : Contents → Type 0) (cs : List Contents) (number : ℕ) (c : Contents) → slice_get cs number ≡ Some c → AllByRecursion P cs → P c
+all_got P [] number c here all = absurd cc
+all_got P (x ∷ xs) zero c here all = subst P (some_same x c here) all.0
+all_got P (x ∷ xs) (suc number) c here all = all_got P xs number c here all.1
+
+pub got_taken : (n : ℕ) (cs : List Contents) (number : ℕ) (c : Contents) → slice_get (take n cs) number ≡ Some c → slice_get cs number ≡ Some c
+got_taken zero cs number c here = absurd cc
+got_taken (suc n) [] number c here = absurd cc
+got_taken (suc n) (x ∷ xs) zero c here = here
+got_taken (suc n) (x ∷ xs) (suc number) c here = got_taken n xs number c here
+
+-- where one of the containers of an offer has a twin, it is the only one, and each is of nodes
+pub twin_is_tree : (offered : List Contents) → IsOffer offered → OneHoldsTwin offered → (number : ℕ) (c : Contents) → slice_get offered number ≡ Some c → c.kind ≡ kinds.Tree
+twin_is_tree [] offer twin number c here = absurd (omega (arith, offer.some))
+twin_is_tree (x ∷ []) offer twin zero c here =
+    let same : (place : ℕ) → slice_get (x ∷ []) place ≡ Some twin.contents → x ≡ twin.contents = only x twin.contents in
+    subst (λ (y : Contents). y.kind ≡ kinds.Tree) (sym (same twin.place twin.contents_are) ∙ some_same x c here) twin.twin.is_twin.0
+  where
+    only : (y z : Contents) (place : ℕ) → slice_get (y ∷ []) place ≡ Some z → y ≡ z
+    only y z zero here = some_same y z here
+    only y z (suc place) here = absurd cc
+twin_is_tree (x ∷ []) offer twin (suc number) c here = absurd cc
+twin_is_tree (x ∷ y ∷ ys) offer twin number c here =
+    let leaf = all_got (λ z. z.kind ≡ kinds.Leaf) (x ∷ y ∷ ys) twin.place twin.contents twin.contents_are (offer.leaves (omega arith)) in
+    absurd (let wrong : kinds.Leaf ≡ kinds.Tree = sym leaf ∙ twin.twin.is_twin.0 in cc)
 
 -- where a collection does not begin memory ran out: the index has each root at its level
 unbegun_memory : (S : List ℕ → Type 0) (s : Store) (stored : Stored) (old new : CoreState) → IsAt S s stored old → (refusal : Refusal) → IsUnbegun refusal old new
@@ -188,27 +226,38 @@ module _ (among : ByteSet) (s : Store) (stored : Stored) (old new : CoreState) (
     claim_harmless seg (refusals.Damaged at_byte why) is row = map_known row.0.1.0
     claim_harmless seg refusal is row = tt
 
-    seal_harmless : (filled : Contents) (refusal : Refusal) → AllByRecursion (λ s. IsAmong (IsIn among) filled.kind s.bytes) filled.segments
-        → SealRow filled actor (Err refusal) old new
-        → IsHarmless (MayClash (asked.Seal filled)) refusal
-    seal_harmless filled (refusals.Clash key d) all row =
-        let first = row.0.2 in
+    -- the first that is unlike is a segment of one of the containers
+    abbrev FirstUnlike : List Contents → Refusal → Type 0
+    FirstUnlike cs refusal = IsFirstUnlikeIn old.disk.size old.known (Shows old.disk new.disk) cs refusal
+
+    first_harmless : (n : ℕ) (offered : List Contents) → AreAmong (IsIn among) offered → (refusal : Refusal) (first : FirstUnlike (take n offered) refusal)
+        → IsHarmless (IsTwin first.contents.kind (segment_at first.contents.segments first.unlike.number).bytes) refusal
+    first_harmless n offered all refusal first =
+        let each = all_taken (λ c. AllByRecursion (λ s. IsAmong (IsIn among) c.kind s.bytes) c.segments) n offered all in
+        let mine = all_got (λ c. AllByRecursion (λ s. IsAmong (IsIn among) c.kind s.bytes) c.segments) (take n offered) first.number first.contents first.contents_are each in
+        unlike first.contents.kind (segment_at first.contents.segments first.unlike.number).bytes refusal
+        (all_at (λ s. IsAmong (IsIn among) first.contents.kind s.bytes) first.contents.segments first.unlike.number first.unlike.within mine) first.unlike.unlike
+
+    seal_harmless : (offered : List Contents) (refusal : Refusal) → AreAmong (IsIn among) offered → SealRow offered actor (Err refusal) old new
+        → IsHarmless (MayClash (asked.Seal offered)) refusal
+    seal_harmless offered (refusals.Clash key d) all row =
+        let n : ℕ = length row.0.1.0 in
+        let first = row.0.1.2 in
         record {
-          number = first.number;
-          within = first.within;
-          is_twin = unlike filled.kind (segment_at filled.segments first.number).bytes (refusals.Clash key d)
-              (all_at (λ s. IsAmong (IsIn among) filled.kind s.bytes) filled.segments first.number first.within all) first.unlike;
+          place = first.number;
+          contents = first.contents;
+          contents_are = got_taken n offered first.number first.contents first.contents_are;
+          twin = record {
+            number = first.unlike.number;
+            within = first.unlike.within;
+            is_twin = first_harmless n offered all (refusals.Clash key d) first;
+          };
         }
-    seal_harmless filled (refusals.Corrupt slot offset count want got) all row =
-        let first = row.0.2 in
-        unlike filled.kind (segment_at filled.segments first.number).bytes (refusals.Corrupt slot offset count want got)
-        (all_at (λ s. IsAmong (IsIn among) filled.kind s.bytes) filled.segments first.number first.within all) first.unlike
-    seal_harmless filled (refusals.Missing key) all row =
-        let first = row.0.2 in
-        unlike filled.kind (segment_at filled.segments first.number).bytes (refusals.Missing key)
-        (all_at (λ s. IsAmong (IsIn among) filled.kind s.bytes) filled.segments first.number first.within all) first.unlike
-    seal_harmless filled (refusals.Damaged at_byte why) all row = map_known row.0.2
-    seal_harmless filled refusal all row = tt
+    seal_harmless offered (refusals.Corrupt slot offset count want got) all row =
+        first_harmless (length row.0.1.0) offered all (refusals.Corrupt slot offset count want got) row.0.1.2
+    seal_harmless offered (refusals.Missing key) all row = first_harmless (length row.0.1.0) offered all (refusals.Missing key) row.0.1.2
+    seal_harmless offered (refusals.Damaged at_byte why) all row = map_known row.0.1.2
+    seal_harmless offered refusal all row = tt
 
     other_harmless : (taken : PartKind) (refusal : Refusal) → IsAtOther taken actor refusal old new → IsHarmless ⊥ refusal
     other_harmless taken (refusals.Clash key d) row = absurd row.0
@@ -294,7 +343,7 @@ module _ (among : ByteSet) (s : Store) (stored : Stored) (old new : CoreState) (
         → IsHarmless (MayClash step) refusal
     step_harmless asked.Begin refusal given row = other_harmless part.Idle refusal row
     step_harmless (asked.Claim seg) refusal given row = claim_harmless seg refusal given row
-    step_harmless (asked.Seal filled) refusal given row = seal_harmless filled refusal given row
+    step_harmless (asked.Seal offered) refusal given row = seal_harmless offered refusal given row
     step_harmless (asked.Commit name root) refusal given row = commit_harmless name root refusal row
     step_harmless asked.Abort refusal given row = other_harmless part.Writing refusal row
     step_harmless (asked.OpenRead name) refusal given row = open_harmless name refusal row

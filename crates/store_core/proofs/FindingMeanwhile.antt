@@ -1,21 +1,27 @@
 -- Which keys a collection has found until it sweeps, whatever steps others made meanwhile.
-use Rattle.store_core.proofs.Prelude.{◌≡◌, ◌⊎◌, inl, inr, ℕ, suc, ◌<◌, ◌≤◌, Bool, true, false, List, [], ◌∷◌, ◌++◌, length, map, Option, Some, None, Result, Ok, Err, refl, sym, ◌∙◌, ap, subst, arith, nat_le, nat_lt, ltb-true, ACTORS, Part, Writing, Answer, PinMap, AreStepSegments, IsStepSegment, pin_of, IsStep, StepValue, Kind, PlaceMap, KindSegment, Segment, segment_key, HeaderValue, IsHeader, header_of, IsLater, Change, Root, Delete, Put, LiveKeys, with_pins, NameMap, Refusal, IsValidFor, Store, last_sequence, names_of, AreHeaders, DifferentIds, HasFree, HasKey, IsPartialIndexOf, first_free, CanSeal, SealContainer, with_change, with_sealed, last_within, Represents, SlotTable, Tables, Collection, Stage, Filter, Mark, Select, HasMarkedAll, HeadersAreApart, Keeps, StepsTo, KeepsMarks, Scans, IsPartKey, IsRoot, Marks, RootKeys, roots_of, AreFound, HasRoom, HasStage, IsUnderWay, is_old_slot, one_more, id_there, contains_first, contains_none, marks_none, Stop, starts, Collects, GcEffect, GcRow, IsKeptKey, MarksIn, StartRow, at_moment, ClaimRow, CommitRow, DeleteRow, Effect, KeepsTables, NamesOne, Rests, Row, SealRow, SealsOne, Steps, StopsAfter, next_id, IsNoSweep, CoreRun, CoreState, Event, IsRunning, IsUnderWayIn, IsUp, UnlessStopped}
+use Rattle.store_core.proofs.Prelude.{◌≡◌, ◌⊎◌, inl, inr, ℕ, suc, ◌<◌, ◌≤◌, Bool, true, false, List, [], ◌∷◌, ◌++◌, length, map, Option, Some, None, Result, Ok, Err, refl, sym, ◌∙◌, ap, subst, arith, nat_le, nat_lt, ltb-true, ACTORS, Part, Writing, Answer, PinMap, AreStepSegments, IsStepSegment, pin_of, IsStep, StepValue, Kind, PlaceMap, KindSegment, Segment, segment_key, HeaderValue, IsHeader, IsLater, Change, Root, Delete, Put, LiveKeys, NameMap, Refusal, IsValidFor, Store, last_sequence, names_of, AreHeaders, DifferentIds, HasFree, HasKey, IsPartialIndexOf, with_change, last_within, Represents, SlotTable, Tables, Collection, Stage, Filter, Mark, Select, HasMarkedAll, HeadersAreApart, Keeps, StepsTo, KeepsMarks, Scans, IsPartKey, IsRoot, Marks, RootKeys, roots_of, AreFound, HasRoom, HasStage, IsUnderWay, is_old_slot, one_more, id_there, contains_first, contains_none, marks_none, Stop, starts, Collects, GcEffect, GcRow, IsKeptKey, MarksIn, StartRow, at_moment, ClaimRow, CommitRow, DeleteRow, Effect, KeepsTables, NamesOne, Rests, Row, SealRow, SealsSome, Steps, StopsAfter, next_id, IsNoSweep, CoreRun, CoreState, Event, IsRunning, IsUnderWayIn, IsUp, UnlessStopped}
 use Rattle.std.proofs.Common.{◌&&◌, not}
 use Rattle.std.specs.Prelude.{◌==◌, get_or, slice_get}
 use Rattle.std.specs.FinMap as finite
 use Rattle.std.specs.List.{Contains}
 use Rattle.std.proofs.lemmas.Bool.{leb-true}
-use Rattle.std.proofs.lemmas.List.Elements.{All-contains, All-from_recursion, All-map}
+use Rattle.std.proofs.lemmas.List.Elements.{Contains-append_cases}
 use Rattle.actor_parts.specs.declared.step.Answer.TheVariants as answers
 use Rattle.actor_parts.specs.Parts.{part_of}
 use Rattle.actor_parts.specs.Segments.{children_by, children_of, first_not_in}
 use Rattle.actor_parts.specs.StepValue as asked
-use Rattle.container_meta.specs.Segments.{Contents}
+use Rattle.std.specs.List.{All}
+use Rattle.std.specs.Prelude.{take, zero}
+use Rattle.actor_parts.specs.Offers.{AreStepContents}
+use Rattle.container_meta.specs.Segments.{Contents, keys_of}
+use Rattle.store_core.specs.Collecting.{keys_in}
 use Rattle.ingest_steps.specs.Claiming.{MayClaim}
-use Rattle.ingest_steps.specs.Pinning.{MayKeep, first_unpinned_of, or_else}
+use Rattle.ingest_steps.specs.Offering.{MayKeepAll, first_unpinned_in, with_pins_of}
+use Rattle.ingest_steps.specs.Pinning.{first_unpinned_of, or_else}
 use Rattle.ingest_steps.proofs.Pinned.{all_pinned}
 use Rattle.namespace.specs.Names.{names_changed}
 use Rattle.refusals.specs.declared.refusal.Refusal.TheVariants as refusals
+use Rattle.store_model.specs.Indexing.{entry_key}
 use Rattle.store_model.specs.Slots.{IsUnusedId, ids_of}
 use Rattle.store_model.proofs.Free.{as_many}
 use Rattle.store_model.proofs.NameChanges.{names_after_change}
@@ -25,16 +31,17 @@ use Rattle.gc_steps.specs.Stages.{is_tree, is_tree_slot}
 use Rattle.gc_steps.proofs.ClaimedPin.{one_or_other}
 use Rattle.gc_steps.proofs.FoundMeanwhile.{FindsSoFar, Gains, begins, found_trees, gain_finds, marked_on, pinned_node, refusal_finds, scan_finds}
 use Rattle.gc_steps.proofs.RootsAfter.{committed_root, deleted_root, part_root}
-use Rattle.gc_steps.proofs.SealedPins.{decided, stays_there, with_there}
+use Rattle.gc_steps.proofs.SealedPins.{Comes}
 use Rattle.store_core.specs.Collecting.{Begins}
-use Rattle.store_core.specs.Core.{Makes}
+use Rattle.store_core.specs.Core.{ChangesTo, Makes, changed_by, seals_from}
 use Rattle.store_core.specs.Finding.{FindsKeysMeanwhile, RunBeforeSweep}
 use Rattle.store_core.proofs.CoreRuns.{running_step, runs_before, was_running}
 use Rattle.store_core.proofs.BeforeSweep.{HasGoneOn, HasNotGoneOn, gc_goes, has_not_scanned, has_scanned, same_running}
 use Rattle.store_core.proofs.Rooms.{free_held}
 use Rattle.store_core.proofs.RootsKept.{abort_none, begin_none, end_none, list_none, none_same, open_none, read_none, stat_none, within_parts}
 use Rattle.store_core.proofs.RunningOn.{seal_kept, step_runs}
-use Rattle.store_core.proofs.SafeSteps.{none_added, pins_more, stored_pin}
+use Rattle.store_core.proofs.SafeSteps.{stored_pin}
+use Rattle.store_core.proofs.ManySealed.{all_taken, comes_all, has_keys, none_sealed, pins_all}
 
 first_true : (a b : Bool) → a && b ≡ true → a ≡ true
 first_true true b e = refl
@@ -52,6 +59,10 @@ tail_is a b xs ys same = cc
 
 -- ---- a segment that is sealed, by its key
 
+both_none : (a b : Option (List ℕ)) → or_else a b ≡ None → (a ≡ None) × (b ≡ None)
+both_none None b is = (refl, is)
+both_none (Some k) b is = absurd cc
+
 -- its children are pinned, so it is one of data, or a node whose children have Q
 sealed_node : (Q : List ℕ → Type 0) (pins : PinMap) → ((key : List ℕ) → IsPartKey (Writing pins) key → Q key) → (kind : Kind) (segments : List Segment)
     → AreStepSegments kind segments
@@ -61,15 +72,30 @@ sealed_node Q pins has kind (x ∷ xs) right none key among =
     by_place (both_none (first_not_in pins (children_by kind x)) (first_unpinned_of kind xs pins) none) (contains_first (segment_key kind x) key (map (segment_key kind) xs) among)
     (λ rest later. sealed_node Q pins has kind xs right.1 rest key later)
   where
-    both_none : (a b : Option (List ℕ)) → or_else a b ≡ None → (a ≡ None) × (b ≡ None)
-    both_none None b is = (refl, is)
-    both_none (Some k) b is = absurd cc
-
     by_place : (first_not_in pins (children_by kind x) ≡ None) × (first_unpinned_of kind xs pins ≡ None) → (key ≡ segment_key kind x) ⊎ Contains (map (segment_key kind) xs) key
         → (first_unpinned_of kind xs pins ≡ None → Contains (map (segment_key kind) xs) key → IsDataKey key ⊎ HasChildren Q key) → IsDataKey key ⊎ HasChildren Q key
     by_place nones (inl same) others =
         subst (λ (k : List ℕ). IsDataKey k ⊎ HasChildren Q k) (sym same) (pinned_node Q pins has kind x right.0 (all_pinned pins (children_by kind x) nones.0))
     by_place nones (inr later) others = others nones.1 later
+
+-- so are those of each of some containers
+sealed_nodes : (Q : List ℕ → Type 0) (pins : PinMap) → ((key : List ℕ) → IsPartKey (Writing pins) key → Q key) → (cs : List Contents) → AreStepContents cs
+    → first_unpinned_in cs pins ≡ None → (key : List ℕ) → Contains (keys_in cs) key → IsDataKey key ⊎ HasChildren Q key
+sealed_nodes Q pins has [] right none key among = absurd (contains_none key among)
+sealed_nodes Q pins has (c ∷ cs) right none key among =
+    let nones = both_none (first_unpinned_of c.kind c.segments pins) (first_unpinned_in cs pins) none in
+    elim (Contains-append_cases (keys_of c) (keys_in cs) key among) [
+      | inl here ↦ sealed_node Q pins has c.kind c.segments right.0 nones.0 key here
+      | inr later ↦ sealed_nodes Q pins has cs right.1 nones.1 key later
+    ]
+
+-- of the first ones, too
+unpinned_taken : (n : ℕ) (cs : List Contents) (pins : PinMap) → first_unpinned_in cs pins ≡ None → first_unpinned_in (take n cs) pins ≡ None
+unpinned_taken zero cs pins none = refl
+unpinned_taken (suc n) [] pins none = refl
+unpinned_taken (suc n) (c ∷ cs) pins none =
+    let nones = both_none (first_unpinned_of c.kind c.segments pins) (first_unpinned_in cs pins) none in
+    ap (λ (o : Option (List ℕ)). or_else o (first_unpinned_in (take n cs) pins)) nones.0 ∙ unpinned_taken n cs pins nones.1
 
 -- ---- what is so until it sweeps
 
@@ -228,70 +254,77 @@ module _ (first : List (Option HeaderValue)) (roots : RootKeys) where
       free : HasFree m.store.held
       free = omega (arith, room_before old.tables.held m.c m.c.stage early under_way.stage_is, free_held m.store.held old.tables.held m.represents.slots_hold m.valid.headers)
 
-      sealed : (filled : Contents) (id : ℕ) → AreStepSegments filled.kind filled.segments → SealRow filled actor (Ok (answers.Sealed id)) old new
-          → SealsOne filled (Ok (answers.Sealed id)) old new
-          → Collects (asked.Seal filled) (Ok (answers.Sealed id)) old new → IsFinding new
-      sealed filled id right row effect collects = goes_on P t later.0 marks.0 marks.1.0 later.1 represents (made.valid.store_has m.store m.represents m.valid free) (record {
-        marks = marks.1.1;
-        decided = decided m.store (next_id old) filled can;
-        has_still = made.keeps_keys m.index m.known_is later.0 later.1;
-        others_stay = λ key none. made.keeps_others m.index m.known_is later.0 later.1 key (none_added filled.kind key filled.segments none);
-        has = λ key among. All-contains (HasKey later.0) (map (segment_key filled.kind) filled.segments) key
-            (All-map (HasKey later.0) (segment_key filled.kind) filled.segments
-            (All-from_recursion (λ (x : Segment). HasKey later.0 (segment_key filled.kind x)) filled.segments (made.adds_keys m.index m.known_is later.0 later.1))) among;
-        stands = stays_there header m.store.held;
-        came = λ at h there. by_slot at h (with_there (first_free m.store.held) header m.store.held at h there);
-        roots_are = λ key root. by_root key (part_root old.tables.names old.parts actor (Writing more) key
-            (subst (λ (p : List Part). IsRoot old.tables.names p key) row.parts_are
-            (subst (λ (n : NameMap). IsRoot n new.parts key) (represents.names_are.names_are ∙ sym names_are) root)));
-        nodes = λ Q have. sealed_node Q may.pins (λ k pinned. have k (pin_root may.pins may.writing k pinned)) filled.kind filled.segments right may.pinned;
-      })
+      sealed : (offered : List Contents) (id count : ℕ) → AreStepContents offered → SealRow offered actor (Ok (answers.Sealed id count)) old new
+          → SealsSome offered (Ok (answers.Sealed id count)) old new
+          → Collects (asked.Seal offered) (Ok (answers.Sealed id count)) old new → IsFinding new
+      sealed offered id count right row effect collects =
+          goes_on P t later.0 marks.0 marks.1.0 later.1 represents (made.valid.store_has m.store m.represents m.valid free) (record {
+            marks = marks.1.1;
+            decided = comes.decided;
+            has_still = made.keeps_keys m.index m.known_is later.0 later.1;
+            others_stay = λ key none. made.keeps_others m.index m.known_is later.0 later.1 key (none_sealed (next_id old) cs key none);
+            has = has_keys later.0 (next_id old) cs (made.adds_keys m.index m.known_is later.0 later.1);
+            stands = comes.stand;
+            came = λ at h there. by_slot at h (comes.came at h there);
+            roots_are = λ key root. by_root key (part_root old.tables.names old.parts actor (Writing more) key
+                (subst (λ (p : List Part). IsRoot old.tables.names p key) row.parts_are
+                (subst (λ (n : NameMap). IsRoot n new.parts key) (represents.names_are.names_are ∙ names_same ∙ sym names_are) root)));
+            nodes = λ Q have. sealed_nodes Q may.pins (λ k pinned. have k (pin_root may.pins may.writing k pinned)) cs
+                (all_taken (λ c. AreStepSegments c.kind c.segments) count offered right) (unpinned_taken count offered may.pins may.pinned);
+          })
         where
-          made : Makes (SealContainer (next_id old) filled.kind filled.segments) old new
+          cs : List Contents
+          cs = take count offered
+
+          made : Makes (seals_from (next_id old) cs) old new
           made = effect.made
 
-          may : MayKeep (part_of old.parts actor) filled
+          may : MayKeepAll (part_of old.parts actor) offered
           may = row.may
 
           t : Store
-          t = with_sealed (next_id old) filled.kind filled.segments m.store
+          t = changed_by (seals_from (next_id old) cs) m.store
 
-          can : CanSeal (next_id old) filled.kind filled.segments m.store
-          can = made.can.store_has m.store m.represents m.valid free
+          lead : ChangesTo (seals_from (next_id old) cs) m.store t
+          lead = made.can.store_has m.store m.represents m.valid free
+
+          P : List ℕ → Type 0
+          P = Contains (keys_in cs)
+
+          comes : Comes P (next_id old) m.store t
+          comes = comes_all (next_id old) cs m.store t lead
 
           represents : Represents t new.known new.tables
           represents = made.represents.store_has m.store m.represents m.valid free
 
+          names_same : names_of t ≡ names_of m.store
+          names_same = comes.names_stay
+
           later : (places : PlaceMap) × (new.known ≡ Some places)
           later = made.tells m.index m.known_is
 
-          header : HeaderValue
-          header = header_of (next_id old) filled.kind filled.segments
-
-          P : List ℕ → Type 0
-          P = IsKeptKey (asked.Seal filled) (Ok (answers.Sealed id))
-
           more : PinMap
-          more = with_pins filled.kind filled.segments may.pins
+          more = with_pins_of cs may.pins
 
           marks : (live : LiveKeys) × ((new.collection ≡ Some (record m.c { live = live })) × Marks P m.c.live live)
           marks = marked_in P collects
 
-          by_slot : (at : ℕ) (h : HeaderValue) → (slice_get m.store.held at ≡ Some (Some h)) ⊎ (header ≡ h) → (slice_get m.store.held at ≡ Some (Some h)) ⊎ (m.c.snapshot ≤ h.id)
+          by_slot : (at : ℕ) (h : HeaderValue) → (slice_get m.store.held at ≡ Some (Some h)) ⊎ ((next_id old ≤ h.id) × All (λ e. P (entry_key h.kind e)) h.entries)
+              → (slice_get m.store.held at ≡ Some (Some h)) ⊎ (m.c.snapshot ≤ h.id)
           by_slot at h (inl there) = inl there
-          by_slot at h (inr same) = inr (omega (arith, under_way.began, ap (λ (x : HeaderValue). x.id) same))
+          by_slot at h (inr is) = inr (omega (arith, under_way.began, is.0))
 
           by_root : (key : List ℕ) → IsRoot old.tables.names old.parts key ⊎ IsPartKey (Writing more) key → IsRoot old.tables.names old.parts key ⊎ P key
           by_root key (inl before) = inl before
           by_root key (inr pinned) = elim
-              ((pins_more filled.kind filled.segments may.pins key).0 pinned) [ inl before ↦ inl (pin_root may.pins may.writing key before) | inr among ↦ inr among ]
+              ((pins_all cs may.pins key).0 pinned) [ inl before ↦ inl (pin_root may.pins may.writing key before) | inr among ↦ inr among ]
 
       -- one that is refused stops the core, or leaves tables and index as they were
-      unsealed : (filled : Contents) (refusal : Refusal) → SealRow filled actor (Err refusal) old new → SealsOne filled (Err refusal) old new
-          → Collects (asked.Seal filled) (Err refusal) old new
-          → StopsAfter (asked.Seal filled) (Err refusal) old.acknowledged new.stop → new.stop ≡ None → IsFinding new
-      unsealed filled refusal row effect collects stops stays =
-          let keeps = seal_kept old new stays filled refusal old.acknowledged stops effect.kept in
+      unsealed : (offered : List Contents) (refusal : Refusal) → SealRow offered actor (Err refusal) old new → SealsSome offered (Err refusal) old new
+          → Collects (asked.Seal offered) (Err refusal) old new
+          → StopsAfter (asked.Seal offered) (Err refusal) old.acknowledged new.stop → new.stop ≡ None → IsFinding new
+      unsealed offered refusal row effect collects stops stays =
+          let keeps = seal_kept old new stays offered refusal old.acknowledged stops effect.kept in
           let is = marked_in (λ key. ⊥) collects in
           rests_on (λ key. ⊥) is.0 is.1.0 effect.disk.later keeps (none_gained m.store is.0 refl is.1.1 (still keeps (same_parts row.1)))
 
@@ -418,12 +451,12 @@ module _ (first : List (Option HeaderValue)) (roots : RootKeys) where
       -- ---- a step, whichever it is
 
       module _ (stays : new.stop ≡ None) where
-        seal_goes : (filled : Contents) (answer : Result Answer Refusal) → AreStepSegments filled.kind filled.segments → SealRow filled actor answer old new
-            → SealsOne filled answer old new → Collects (asked.Seal filled) answer old new
-            → StopsAfter (asked.Seal filled) answer old.acknowledged new.stop → IsFinding new
-        seal_goes filled (Ok (answers.Sealed id)) right row effect collects stops = sealed filled id right row effect collects
-        seal_goes filled (Err refusal) right row effect collects stops = unsealed filled refusal row effect collects stops stays
-        seal_goes filled answer right row effect collects stops = absurd row
+        seal_goes : (offered : List Contents) (answer : Result Answer Refusal) → AreStepContents offered → SealRow offered actor answer old new
+            → SealsSome offered answer old new → Collects (asked.Seal offered) answer old new
+            → StopsAfter (asked.Seal offered) answer old.acknowledged new.stop → IsFinding new
+        seal_goes offered (Ok (answers.Sealed id count)) right row effect collects stops = sealed offered id count right row effect collects
+        seal_goes offered (Err refusal) right row effect collects stops = unsealed offered refusal row effect collects stops stays
+        seal_goes offered answer right row effect collects stops = absurd row
 
         step_goes : (step : StepValue) (answer : Result Answer Refusal) → IsStep step → (step ≡ asked.GcStep → HeadersAreApart first old.disk new.disk)
             → Row step actor answer buf old new → Effect step answer old new
@@ -431,7 +464,7 @@ module _ (first : List (Option HeaderValue)) (roots : RootKeys) where
         step_goes asked.Begin answer right apart row effect collects stops = part_rests answer collects effect
             (begin_none old.tables.names old new actor buf refl up.many answer row)
         step_goes (asked.Claim seg) answer right apart row effect collects stops = claimed seg answer right row effect collects
-        step_goes (asked.Seal filled) answer right apart row effect collects stops = seal_goes filled answer right.1 row effect collects stops
+        step_goes (asked.Seal offered) answer right apart row effect collects stops = seal_goes offered answer right.1 row effect collects stops
         step_goes (asked.Commit name root) answer right apart row effect collects stops = committed name root answer row effect collects
         step_goes asked.Abort answer right apart row effect collects stops = part_rests answer collects effect
             (abort_none old.tables.names old new actor buf refl up.many answer row)

@@ -10,7 +10,8 @@ use Rattle.gc_sweep.proofs.HoldsRoom.{none_newest}
 use Rattle.gc_sweep.proofs.InSlots.{IsSourceIn, stands_in}
 use Rattle.store_model.proofs.Free.{first_closed, some_free}
 use Rattle.store_model.proofs.Indexing.{partial_with}
-use Rattle.store_core.proofs.Frames.{first_with, other_with}
+use Rattle.gc_steps.proofs.SealedPins.{there_now}
+use Rattle.store_core.proofs.FilledSlots.{other_with}
 use Rattle.store_core.proofs.Rooms.{free_held}
 
 -- each header that there is is such
@@ -94,7 +95,7 @@ module _ (t : SlotTable) (index : PlaceMap) (store : Store) (files : Files) (ima
   -- The headers of the slots are such, the container's among them.
   pub opens_flushed : IndexesFiles index files → AreHeaders held_now → CanBeOpened (with_sealed id s.buffer.kind s.buffer.segments store) files
   opens_flushed indexed headers_now =
-      let right : IsHeader h = header_at held_now place h headers_now (first_with h held some) in
+      let right : IsHeader h = header_at held_now place h headers_now (there_now h held some) in
       let later : PlaceMap = with_entries s.buffer.kind place (entries_from 0 s.buffer.segments) index in
       let partial_now : IsPartialIndexOf held_now later = partial_with h held index partial right above some in
       let holds_now = holds_flushed t index held image now live snapshot source entry id s after slots under stage flushed right new some holds in

@@ -1,7 +1,11 @@
 -- What a run leaves of the bytes of the disk, whatever these are.
-use Rattle.store_core.proofs.Prelude.{◌≡◌, ◌≢◌, inl, inr, ℕ, zero, suc, ◌+◌, ◌<◌, ◌≤◌, Bool, true, false, List, [], ◌∷◌, length, Option, Some, None, Result, Ok, Err, refl, sym, ◌∙◌, ap, subst, arith, nat_lt, ltb-true, ltb-false, lt-ltb, range, SameOutside, KnownWith, SLOT_BYTES, Change, Delete, Put, half_cells, slot_at, ending_of, DiskView, IsLater, OnlyReads, CrashLeaves, SteppedFrom, StandsFor, Both, reads_here, reads_leave, leaves_on, leaves_weaker, PlaceMap, HeaderValue, header_of, SameBefore, Answer, StepValue, JournalValue, Refusal, Stored, Store, IsValidFor, free_slots, first_free, some_same, with_slot, StoreChange, SealContainer, ChangeName, FlushContainer, FreeContainer, changed, with_change, free_less, Tables, blames, IsSettled, Left, Represents, ChangesSlotAlone, SameButSlotOf, ChangesBytes, record_alone, Stop, CoreStep, Steps, StepsOr, StopsAfter, Row, Effect, Rests, SealsOne, NamesOne, KeepsTables, IsOn, KeepsBytes, ChangesTo, CoreRun, FileEvent, IsAt, changes_by, changes_of, events_of, AreNoGcSteps, IsNoGcStep, CoreState, Event}
+use Rattle.store_core.proofs.Prelude.{◌≡◌, ◌≢◌, inl, inr, ℕ, suc, ◌+◌, ◌<◌, ◌≤◌, Bool, true, false, List, [], ◌∷◌, length, Option, Some, None, Result, Ok, Err, refl, sym, ◌∙◌, ap, subst, arith, nat_lt, ltb-true, ltb-false, lt-ltb, range, SameOutside, KnownWith, SLOT_BYTES, Change, Delete, Put, half_cells, slot_at, ending_of, DiskView, IsLater, OnlyReads, CrashLeaves, SteppedFrom, StandsFor, Both, reads_here, reads_leave, leaves_on, leaves_weaker, PlaceMap, HeaderValue, SameBefore, Answer, StepValue, JournalValue, Refusal, Stored, Store, IsValidFor, free_slots, first_free, StoreChange, SealContainer, ChangeName, FlushContainer, FreeContainer, with_change, Tables, blames, IsSettled, Left, Represents, ChangesBytes, record_alone, Stop, CoreStep, Steps, StepsOr, StopsAfter, Row, Effect, Rests, SealsSome, NamesOne, KeepsTables, IsOn, KeepsBytes, ChangesTo, CoreRun, FileEvent, IsAt, changes_by, changes_of, events_of, AreNoGcSteps, IsNoGcStep, CoreState, Event}
 use Rattle.std.proofs.Common.{length-append}
-use Rattle.std.specs.Prelude.{slice_get}
+use Rattle.std.specs.Prelude.{◌-◌, ◌⊎◌, slice_get, take}
+use Rattle.actor_parts.specs.Offers.{sealed_of}
+use Rattle.ingest_steps.specs.Offering.{in_free, offer_in}
+use Rattle.ingest_steps.specs.SealingAll.{ChangesSlotsAlone, SameButSlotsOf, slots_of}
+use Rattle.store_core.specs.Core.{AreSealed, changed_by, next_id, seals_from}
 use Rattle.disk_format.specs.declared.numbers.TheConstants.{CELL_BYTES, FIRST_HALF, FIRST_SLOT}
 use Rattle.disk_format.specs.Cells.{SelectorValue}
 use Rattle.disk_format.specs.Layout.{cell_at}
@@ -23,49 +27,10 @@ use Rattle.store_core.specs.Frame.{HadContainer, KeepsJournal, AddsBytes, KeepsW
 use Rattle.store_core.proofs.CoreRuns.{was_running, running_step, runs_before, run_later, stopped_reads}
 use Rattle.store_core.proofs.KeepingFiles.{only_reads, chain_on}
 use Rattle.store_core.proofs.KeepingSegments.{effect_settled}
-use Rattle.store_core.proofs.RunningOn.{seal_kept}
+use Rattle.store_core.proofs.RunningOn.{seal_kept, sealed_first, sealed_some}
+use Rattle.store_core.proofs.FilledSlots.{IsOutOf, out_of_closed, slots_closed, slots_filled, slots_other, some_not_none}
+use Rattle.store_core.proofs.ManySealed.{comes_all, rest_on, room_left}
 use Rattle.store_core.proofs.Stepping.{step_later}
-
--- ---- the slots of a store with one container more
-
-pub some_not_none : (h : HeaderValue) → Some (Some h) ≡ Some None → ⊥
-some_not_none h same = cc
-
--- what a slot held it holds
-held_with : (slot : ℕ) (h g : HeaderValue) (held : List (Option HeaderValue)) → slice_get held slot ≡ Some (Some g)
-    → slice_get (with_slot (first_free held) h held) slot ≡ Some (Some g)
-held_with slot h g [] is = absurd cc
-held_with zero h g (None ∷ cs) is = absurd (some_not_none g (sym is))
-held_with (suc slot) h g (None ∷ cs) is = is
-held_with zero h g (Some x ∷ cs) is = is
-held_with (suc slot) h g (Some x ∷ cs) is = held_with slot h g cs is
-
-pub other_with : (slot : ℕ) (h : HeaderValue) (held : List (Option HeaderValue)) → slot ≢ first_free held
-    → slice_get (with_slot (first_free held) h held) slot ≡ slice_get held slot
-other_with slot h [] differ = refl
-other_with zero h (None ∷ cs) differ = absurd (differ refl)
-other_with (suc slot) h (None ∷ cs) differ = refl
-other_with zero h (Some x ∷ cs) differ = refl
-other_with (suc slot) h (Some x ∷ cs) differ = other_with slot h cs (λ is. differ (ap suc is))
-
--- the first that was closed holds the container
-pub first_with : (h : HeaderValue) (held : List (Option HeaderValue)) → 1 ≤ free_slots held → slice_get (with_slot (first_free held) h held) (first_free held) ≡ Some (Some h)
-first_with h [] some = absurd (omega (arith, some))
-first_with h (None ∷ cs) some = refl
-first_with h (Some x ∷ cs) some = first_with h cs some
-
-pub first_none : (held : List (Option HeaderValue)) → 1 ≤ free_slots held → slice_get held (first_free held) ≡ Some None
-first_none [] some = absurd (omega (arith, some))
-first_none (None ∷ cs) some = refl
-first_none (Some x ∷ cs) some = first_none cs some
-
--- a container that is added comes into a slot that was closed
-module _ (held : List (Option HeaderValue)) (h : HeaderValue) (some : 1 ≤ free_slots held) where
-  was_closed : (slot : ℕ) (g : HeaderValue) → slice_get held slot ≡ Some (Some g) → slot ≢ first_free held
-  was_closed slot g there is = let wrong : None ≡ Some g = some_same None (Some g) (sym (first_none held some) ∙ ap (slice_get held) (sym is) ∙ there) in cc
-
-  pub still_there : (slot : ℕ) (g : HeaderValue) → slice_get held slot ≡ Some (Some g) → slice_get (with_slot (first_free held) h held) slot ≡ Some (Some g)
-  still_there slot g there = other_with slot h held (was_closed slot g there) ∙ there
 
 -- ---- bytes
 
@@ -134,19 +99,21 @@ module _ (s : Store) (base : List ℕ) where
       slots = λ slot within stays. same.before (slot_at slot) SLOT_BYTES (omega (arith, within)) ∙ keeps.slots slot within stays;
     }
 
-    -- where a slot changes that is none of these
-    pub keeps_sealed : (place : ℕ) (new : List ℕ) → ((slot : ℕ) → Stays slot → slot ≢ place) → SameButSlotOf s.slots place given new → KeepsBytes s end Also Stays base new
-    keeps_sealed place new others same = record {
+    -- where slots change that are none of these
+    pub keeps_sealed : (taken new : List ℕ) → ((slot : ℕ) → Stays slot → IsOutOf taken slot) → SameButSlotsOf s.slots taken given new → KeepsBytes s end Also Stays base new
+    keeps_sealed taken new others same = record {
       size_is = same.size ∙ keeps.size_is;
-      format = same.before 0 CELL_BYTES (omega arith) ∙ keeps.format;
-      journal = λ also. journal_before end given new (λ p n within. same.before p n (omega (arith, within))) (keeps.journal also);
-      slots = λ slot within stays. other_slot slot within (nat_lt slot place) refl (others slot stays) ∙ keeps.slots slot within stays;
+      format = same.same 0 CELL_BYTES (λ i other here. inl (omega arith), omega arith) ∙ keeps.format;
+      journal = λ also. journal_before end given new (λ p n within. same.same p n (λ i other here. inl (omega (arith, within)), omega (arith, within))) (keeps.journal also);
+      slots = λ slot within stays.
+          same.same (slot_at slot) SLOT_BYTES (λ i other here. by_side slot other (nat_lt slot other) refl (others slot stays i other here), omega (arith, within))
+          ∙ keeps.slots slot within stays;
     }
       where
-        other_slot : (slot : ℕ) → slot < s.slots → (below : Bool) → nat_lt slot place ≡ below → slot ≢ place
-            → range (slot_at slot) SLOT_BYTES new ≡ range (slot_at slot) SLOT_BYTES given
-        other_slot slot within true is differ = same.before (slot_at slot) SLOT_BYTES (omega (arith, ltb-true slot place is))
-        other_slot slot within false is differ = same.after (slot_at slot) SLOT_BYTES (omega (arith, ltb-false slot place is, differ)) (omega (arith, within))
+        by_side : (slot other : ℕ) (below : Bool) → nat_lt slot other ≡ below → slot ≢ other
+            → (slot_at slot + SLOT_BYTES ≤ slot_at other) ⊎ (slot_at other + SLOT_BYTES ≤ slot_at slot)
+        by_side slot other true is differ = inl (omega (arith, ltb-true slot other is))
+        by_side slot other false is differ = inr (omega (arith, ltb-false slot other is, differ))
 
     -- where the journal alone changes
     pub keeps_record : (later : ℕ) (Then : Type 0) (new : List ℕ) → SameButJournal given new → (Then → KeepsJournal s later base new) → KeepsBytes s later Then Stays base new
@@ -167,8 +134,12 @@ names_in (ChangeName name change ∷ rest) = suc (names_in rest)
 names_in (FlushContainer id kind segments ∷ rest) = names_in rest
 names_in (FreeContainer slot ∷ rest) = names_in rest
 
+none_named : (id : ℕ) (cs : List Contents) → names_in (seals_from id cs) ≡ 0
+none_named id [] = refl
+none_named id (c ∷ cs) = none_named (suc id) cs
+
 few_names : (step : StepValue) (answer : Result Answer Refusal) → names_in (changes_by step answer) ≤ commands_of step
-few_names (asked.Seal filled) (Ok (answers.Sealed id)) = omega arith
+few_names (asked.Seal offered) (Ok (answers.Sealed id count)) = omega (arith, none_named (id + 1 - count) (take count offered))
 few_names (asked.Commit name root) (Ok answer) = omega arith
 few_names (asked.Delete name) (Ok answer) = omega arith
 few_names step answer = omega arith
@@ -284,12 +255,13 @@ module _ (s : Store) (base : List ℕ) (t : Store) (old new : CoreState) (framed
   image_adds : (c : List ℕ) → old.disk.images c → AddsBytes s t base c
   image_adds c image = keeps_counted s base (length t.records) Still Same given framed.content.2 c (settled given known c image)
 
-  -- a slot that held a container is not the closed one
-  not_place : (slot : ℕ) → Was slot → slot ≢ place
-  not_place slot was is = some_not_none was.0 (sym (framed.held slot was.0 was.1) ∙ ap (slice_get t.held) is ∙ first_none t.held some)
+  -- a slot that held a container is none of those that were closed
+  not_taken : (id : ℕ) (cs : List Contents) (slot : ℕ) → Was slot → IsOutOf (slots_of (in_free id cs t)) slot
+  not_taken id cs slot was =
+      out_of_closed t.held (slots_of (in_free id cs t)) (slots_closed id cs t) slot (λ none. some_not_none was.0 (sym (framed.held slot was.0 was.1) ∙ none))
 
-  frame_of : ChangesSlotAlone old.tables.slots place old.disk new.disk → ChangesSlotAlone s.slots place old.disk new.disk
-  frame_of frame = subst (λ (n : ℕ). ChangesSlotAlone n place old.disk new.disk) tables_slots frame
+  frame_of : (taken : List ℕ) → ChangesSlotsAlone old.tables.slots taken old.disk new.disk → ChangesSlotsAlone s.slots taken old.disk new.disk
+  frame_of taken frame = subst (λ (n : ℕ). ChangesSlotsAlone n taken old.disk new.disk) tables_slots frame
 
   abbrev journal : JournalValue
   journal = old.tables.journal
@@ -329,11 +301,14 @@ module _ (s : Store) (base : List ℕ) (t : Store) (old new : CoreState) (framed
     by_reads : OnlyReads old.disk new.disk → CrashLeaves Written old.disk new.disk
     by_reads reads = reads_leave Written old.disk new.disk image_written reads
 
-    by_seal : (filled : Contents) (answer : Result Answer Refusal) → SealsOne filled answer old new → CrashLeaves Written old.disk new.disk
-    by_seal filled answer effect =
-        let frame = frame_of (effect.moves.frame.store_has t framed.on.represents framed.on.valid framed.on.has_free) in
-        leaves_weaker (SameButSlotOf s.slots place given) Written old.disk new.disk
-        (λ c same. keeps_sealed s base half_cells (HasCellsFor s count) Was given (adds_written given framed.content.2) place c not_place same)
+    by_seal : (offered : List Contents) (answer : Result Answer Refusal) → SealsSome offered answer old new → CrashLeaves Written old.disk new.disk
+    by_seal offered answer effect =
+        let n : ℕ = sealed_of (length offered) (free_slots t.held) old.tables.held.last_id in
+        let taken : List ℕ = slots_of (offer_in old.tables offered t) in
+        let frame = frame_of taken (effect.moves.frame.store_has t framed.on.represents framed.on.valid framed.on.has_free) in
+        leaves_weaker (SameButSlotsOf s.slots taken given) Written old.disk new.disk
+        (λ c same. keeps_sealed s base half_cells (HasCellsFor s count) Was given (adds_written given framed.content.2) taken c
+        (not_taken (next_id old) (take n offered)) same)
         (frame.settled settled given known).1
 
     record_written : 1 ≤ left → (d c : List ℕ) → Written d → SameButOne d c → Written c
@@ -354,7 +329,7 @@ module _ (s : Store) (base : List ℕ) (t : Store) (old new : CoreState) (framed
     by_effect : (step : StepValue) (answer : Result Answer Refusal) → IsNoGcStep step → commands_of step ≤ left → Effect step answer old new → CrashLeaves Written old.disk new.disk
     by_effect asked.Begin answer other few effect = by_reads effect.disk.only
     by_effect (asked.Claim seg) answer other few effect = by_reads effect.disk.only
-    by_effect (asked.Seal filled) answer other few effect = by_seal filled answer effect
+    by_effect (asked.Seal offered) answer other few effect = by_seal offered answer effect
     by_effect (asked.Commit name root) answer other few effect = by_name name (Put root) answer few effect
     by_effect asked.Abort answer other few effect = by_reads effect.disk.only
     by_effect (asked.OpenRead name) answer other few effect = by_reads effect.disk.only
@@ -418,59 +393,98 @@ module _ (s : Store) (base : List ℕ) (t : Store) (old new : CoreState) (framed
     rests : (answer : Result Answer Refusal) → Rests answer old new → IsSettled old.tables.slots new.disk → Leads s base [] t new
     rests answer effect calm = still effect.tables effect.disk.only.later (reads_count effect.disk.only) calm
 
-    unsealed_counts : (filled : Contents) (refusal : Refusal) → StopsAfter (asked.Seal filled) (Err refusal) old.acknowledged new.stop → IsLater old.disk new.disk
+    unsealed_counts : (offered : List Contents) (refusal : Refusal) → StopsAfter (asked.Seal offered) (Err refusal) old.acknowledged new.stop → IsLater old.disk new.disk
         → Left old.tables.slots (ending_of (blames refusal)) old.disk new.disk → Counts
-    unsealed_counts filled refusals.DiskWrite stops later left = absurd (let both = sym stays ∙ stops in cc)
-    unsealed_counts filled refusals.DiskRead stops later left = both_count later left.content_is
-    unsealed_counts filled refusal stops later left = both_count later left.content_is
+    unsealed_counts offered refusals.DiskWrite stops later left = absurd (let both = sym stays ∙ stops in cc)
+    unsealed_counts offered refusals.DiskRead stops later left = both_count later left.content_is
+    unsealed_counts offered refusal stops later left = both_count later left.content_is
 
-    -- the slot holds what it held first, once the container is in
-    abbrev Now : HeaderValue → ℕ → Type 0
-    Now h slot = slice_get (with_slot place h t.held) slot ≡ slice_get s.held slot
+    -- containers are added
+    module _ (offered : List Contents) (id count actor : ℕ) (row : AreSealed offered id count actor old new) (effect : SealsSome offered (Ok (answers.Sealed id count)) old new)
+        (calm : IsSettled old.tables.slots new.disk) where
+      abbrev cs : List Contents
+      cs = take count offered
 
-    now_other : (h : HeaderValue) (slot : ℕ) → Now h slot → slot ≢ place
-    now_other h slot now is =
-        let has : slice_get s.held slot ≡ Some (Some h) = sym now ∙ ap (slice_get (with_slot place h t.held)) is ∙ first_with h t.held some in
-        some_not_none h (sym (framed.held slot h has) ∙ ap (slice_get t.held) is ∙ first_none t.held some)
+      abbrev after : Store
+      after = changed_by (seals_from (next_id old) cs) t
 
-    -- a container is added
-    seals : (id : ℕ) (filled : Contents) (answer : Answer) → SealsOne filled (Ok answer) old new → id ≡ old.tables.held.last_id + 1 → IsSettled old.tables.slots new.disk
-        → Leads s base (SealContainer id filled.kind filled.segments ∷ []) t new
-    seals id filled answer effect id_is calm =
-        let change : StoreChange = SealContainer (old.tables.held.last_id + 1) filled.kind filled.segments in
-        let h : HeaderValue = header_of (old.tables.held.last_id + 1) filled.kind filled.segments in
-        let can = effect.made.can.store_has t framed.on.represents framed.on.valid framed.on.has_free in
-        let represents = effect.made.represents.store_has t framed.on.represents framed.on.valid framed.on.has_free in
-        let frame = frame_of (effect.moves.frame.store_has t framed.on.represents framed.on.valid framed.on.has_free) in
-        let left = (frame.settled settled given known).0 in
-        let next : Leads s base (change ∷ []) t new = record {
-          after = changed change t;
-          chain = (can, refl);
-          framed = record {
-            on = record {
-              represents = represents;
-              valid = effect.made.valid.store_has t framed.on.represents framed.on.valid framed.on.has_free;
-              has_free = omega (arith, can.slot, free_less h t.held some);
-              settled = subst (λ (n : ℕ). IsSettled n new.disk) (framed.on.represents.slots_are ∙ sym represents.slots_are) calm;
-            };
-            slots_are = framed.slots_are;
-            rises = framed.rises;
-            more = framed.more;
-            held = λ slot g is. held_with slot h g t.held (framed.held slot g is);
-            content = (
-              left.0,
-              left.1,
-              keeps_sealed s base (length t.records) Still (Now h) given
-                  (keeps_fewer s base (length t.records) Still Same given framed.content.2 (length t.records) Still (Now h) (λ so. (so, omega arith))
-                  (λ slot now. sym (other_with slot h t.held (now_other h slot now)) ∙ now))
-                  place left.0 (now_other h) left.2,
-            );
-            journal = λ has. stands_weaker (HasJournal t) (HasJournal (changed change t)) new.disk (λ c so. record { holds = so.holds; other = so.other })
-                (has_still left.0 left.1 calm (λ p n within. left.2.before p n (omega (arith, within))) has);
-          };
-          fits = λ count more fits. fits_fewer s count t (names_in (change ∷ []) + more) more (omega arith) fits;
-        } in
-        subst (λ (n : ℕ). Leads s base (SealContainer n filled.kind filled.segments ∷ []) t new) (sym id_is) next
+      lead : ChangesTo (seals_from (next_id old) cs) t after
+      lead = effect.made.can.store_has t framed.on.represents framed.on.valid framed.on.has_free
+
+      represents : Represents after new.known new.tables
+      represents = effect.made.represents.store_has t framed.on.represents framed.on.valid framed.on.has_free
+
+      abbrev taken : List ℕ
+      taken = slots_of (in_free (next_id old) cs t)
+
+      -- they are those for which there is room
+      frame : ChangesSlotsAlone s.slots taken old.disk new.disk
+      frame = subst (λ (n : ℕ). ChangesSlotsAlone s.slots (slots_of (in_free (next_id old) (take n offered) t)) old.disk new.disk)
+          (sym ((row.room old.disk.size old.known).store_has t framed.on.represents framed.on.valid framed.on.has_free))
+          (frame_of (slots_of (offer_in old.tables offered t)) (effect.moves.frame.store_has t framed.on.represents framed.on.valid framed.on.has_free))
+
+      left : KnownWith new.disk.content (SameButSlotsOf s.slots taken given)
+      left = (frame.settled settled given known).0
+
+      -- the slot holds what it held first, once they are in
+      abbrev Now : ℕ → Type 0
+      Now slot = slice_get after.held slot ≡ slice_get s.held slot
+
+      now_other : (slot : ℕ) → Now slot → IsOutOf taken slot
+      now_other slot now i other here same =
+          let filled = slots_filled (next_id old) cs t after lead i other here in
+          let has : slice_get s.held slot ≡ Some (Some filled.0) = sym now ∙ ap (slice_get after.held) same ∙ filled.1 in
+          some_not_none filled.0 (sym (framed.held slot filled.0 has) ∙ ap (slice_get t.held) same ∙ slots_closed (next_id old) cs t i other here)
+
+      -- nothing else of the store is another
+      rest : after ≡ record t { held = after.held }
+      rest = rest_on (next_id old) cs t after lead
+
+      along_selector : after.selector ≡ s.selector → t.selector ≡ s.selector
+      along_selector so = sym (ap (λ (u : Store). u.selector) rest) ∙ so
+
+      records_same : length after.records ≡ length t.records
+      records_same = ap (λ (u : Store). length u.records) rest
+
+      adds : AddsBytes s after base left.0
+      adds = keeps_sealed s base (length after.records) (after.selector ≡ s.selector) Now given
+          (keeps_fewer s base (length t.records) Still Same given framed.content.2 (length after.records) (after.selector ≡ s.selector) Now
+          (λ so. (along_selector so, omega (arith, records_same)))
+          (λ slot now. sym (slots_other (next_id old) cs t after lead slot (now_other slot now)) ∙ now)) taken left.0 now_other left.2
+
+      on_after : IsOn after new
+      on_after = record {
+        represents = represents;
+        valid = effect.made.valid.store_has t framed.on.represents framed.on.valid framed.on.has_free;
+        has_free =
+            let room = room_left (next_id old) cs t after (sealed_some offered id count actor old new row) lead in omega (arith, room);
+        settled = subst (λ (n : ℕ). IsSettled n new.disk)
+            (framed.on.represents.slots_are ∙ sym (ap (λ (u : Store). u.slots) rest) ∙ sym represents.slots_are) calm;
+      }
+
+      framed_after : IsFramed s base after new
+      framed_after = record {
+        on = on_after;
+        slots_are = ap (λ (u : Store). u.slots) rest ∙ framed.slots_are;
+        rises = omega (arith, framed.rises, ap (λ (u : Store). u.selector.generation) rest);
+        more = λ so. let few = framed.more (along_selector so) in omega (arith, few, records_same);
+        held = λ slot g is. (comes_all (next_id old) cs t after lead).stand slot g (framed.held slot g is);
+        content = (left.0, left.1, adds);
+        journal = λ has.
+            stands_weaker (HasJournal t) (HasJournal after) new.disk
+            (λ c so. subst (λ (u : Store). HasJournal u c) (sym rest) (record { holds = so.holds; other = so.other }))
+            (has_still left.0 left.1 calm
+            (λ p n within. left.2.same p n (λ i other here. inl (omega (arith, within)), omega (arith, within))) has);
+      }
+
+      seals : Leads s base (seals_from (id + 1 - count) cs) t new
+      seals = subst (λ (n : ℕ). Leads s base (seals_from n cs) t new) (sym (sealed_first offered id count actor old new row)) (record {
+        after = after;
+        chain = lead;
+        framed = framed_after;
+        fits = λ many more fits. subst (λ (u : Store). Fits s many u more) (sym rest)
+            (fits_fewer s many t (names_in (seals_from (next_id old) cs) + more) more (omega arith) fits);
+      })
 
     -- a record is added
     module _ (name : List ℕ) (change : Change) where
@@ -504,7 +518,7 @@ module _ (s : Store) (base : List ℕ) (t : Store) (old new : CoreState) (framed
           ] in
           record {
             after = later_store;
-            chain = (made.can.store_has t framed.on.represents framed.on.valid framed.on.has_free, refl);
+            chain = made.can.store_has t framed.on.represents framed.on.valid framed.on.has_free;
             framed = record {
               on = record {
                 represents = represents;
@@ -527,11 +541,11 @@ module _ (s : Store) (base : List ℕ) (t : Store) (old new : CoreState) (framed
         → IsSettled old.tables.slots new.disk → Leads s base (changes_by step answer) t new
     leads actor buf asked.Begin answer other row effect stops calm = rests answer effect calm
     leads actor buf (asked.Claim seg) answer other row effect stops calm = rests answer effect calm
-    leads actor buf (asked.Seal filled) (Ok (answers.Sealed id)) other row effect stops calm = seals id filled (answers.Sealed id) effect row.id_is calm
-    leads actor buf (asked.Seal filled) (Ok answer) other row effect stops calm = absurd row
-    leads actor buf (asked.Seal filled) (Err refusal) other row effect stops calm =
-        still (seal_kept old new stays filled refusal old.acknowledged stops effect.kept) effect.disk.later
-        (unsealed_counts filled refusal stops effect.disk.later effect.disk.left) calm
+    leads actor buf (asked.Seal offered) (Ok (answers.Sealed id count)) other row effect stops calm = seals offered id count actor row effect calm
+    leads actor buf (asked.Seal offered) (Ok answer) other row effect stops calm = absurd row
+    leads actor buf (asked.Seal offered) (Err refusal) other row effect stops calm =
+        still (seal_kept old new stays offered refusal old.acknowledged stops effect.kept) effect.disk.later
+        (unsealed_counts offered refusal stops effect.disk.later effect.disk.left) calm
     leads actor buf (asked.Commit name root) (Ok (answers.Committed sequence)) other row effect stops calm = names name (Put root) (answers.Committed sequence) effect calm
     leads actor buf (asked.Commit name root) (Ok answer) other row effect stops calm = absurd row
     leads actor buf (asked.Commit name root) (Err refusal) other row effect stops calm =

@@ -1,5 +1,5 @@
 -- A core that isn't stopped has the stored of the commits that it acknowledged, and its invariant holds.
-use Rattle.store_core.proofs.Prelude.{some_same, ◌≡◌, ◌⊎◌, inl, inr, ℕ, List, [], ◌∷◌, ◌++◌, Option, Some, None, Result, Ok, Err, refl, sym, ◌∙◌, subst, ap, suc, length, arith, AllByRecursion, Root, Delete, Put, DiskView, IsLater, OnlyReads, ending, ending_of, StandsFor, stands_reads, Kind, PlaceMap, Segment, KindSegment, Part, Idle, Answer, IsStepSegment, AreStepSegments, StepValue, IsStep, Refusal, HasNoCollisions, ByteSet, IsIn, IsAmong, Stands, Stored, with_stored, without_stored, Store, IsValidFor, last_sequence, names_of, HasFree, HasKey, IsPartialIndexOf, HasReserve, free_reserve, free_sealed, reached_less, reached_put, AnyKey, StoreChange, SealContainer, ChangeName, KeepsCopies, changed, with_sealed, with_change, Tables, CoreInvariant, HoldsPart, IndexesFiles, blames, Represents, Runs, last_changed, StandsSealed, Stop, IndexesAll, Row, Effect, Rests, SealsOne, KeepsTables, StopsAfter, StepsOr, next_id, FileEvent, FileStep, FileRun, IsAt, ChangesTo, changes_by, events_of, IsGivenRight, stored_with, stored_by, IsNoGcStep, IsSafeIn, CoreState, IsUnderWayIn, ACTORS, Collection, Collects, KeepsBoth, Known, apart}
+use Rattle.store_core.proofs.Prelude.{some_same, ◌≡◌, ◌⊎◌, inl, inr, ℕ, List, [], ◌∷◌, ◌++◌, Option, Some, None, Result, Ok, Err, refl, sym, ◌∙◌, subst, ap, suc, length, arith, AllByRecursion, Root, Delete, Put, IsLater, OnlyReads, ending, ending_of, StandsFor, stands_reads, Kind, PlaceMap, Segment, KindSegment, Part, Idle, Answer, IsStepSegment, AreStepSegments, StepValue, IsStep, Refusal, HasNoCollisions, ByteSet, IsIn, IsAmong, Stands, Stored, with_stored, without_stored, Store, IsValidFor, last_sequence, names_of, HasFree, HasKey, IsPartialIndexOf, HasReserve, free_reserve, reached_less, reached_put, AnyKey, StoreChange, ChangeName, KeepsCopies, changed, with_change, Tables, CoreInvariant, HoldsPart, IndexesFiles, blames, Represents, Runs, last_changed, Stop, IndexesAll, Row, Effect, Rests, SealsSome, KeepsTables, StopsAfter, StepsOr, next_id, FileEvent, FileStep, FileRun, IsAt, ChangesTo, changes_by, events_of, IsGivenRight, stored_with, stored_by, IsNoGcStep, IsSafeIn, CoreState, IsUnderWayIn, ACTORS, Collection, Collects, KeepsBoth, Known, apart}
 use Rattle.dd_disk.specs.Moves.{Moved, Arrives, Ends}
 use Rattle.container_meta.specs.declared.kind.Kind.TheVariants as kind
 use Rattle.container_meta.specs.Segments.{Contents}
@@ -10,14 +10,22 @@ use Rattle.refusals.specs.declared.refusal.Refusal.TheVariants as refusals
 use Rattle.store_model.specs.Files as files
 use Rattle.store_model.specs.Steps.{MaySeal}
 use Rattle.store_state.proofs.Parts.{part_kept, parts_kept}
-use Rattle.ingest_steps.specs.Sealing.{KeepsHeld, sealing_compared}
-use Rattle.store_core.specs.Core.{Makes}
+use Rattle.std.specs.Prelude.{◌+◌, take}
+use Rattle.actor_parts.specs.Offers.{AreStepContents, sealed_of}
+use Rattle.store_model.specs.Slots.{free_slots}
+use Rattle.store_model.specs.Together.{Placed, with_all}
+use Rattle.store_state.specs.Tables.{closed_from}
+use Rattle.ingest_steps.specs.Offering.{in_free, offer_in}
+use Rattle.ingest_steps.specs.SealingAll.{KeepsAllHeld, MayAllSeal, sealing_all}
+use Rattle.store_core.specs.Runs.{AreAmong}
+use Rattle.store_core.specs.Core.{AreSealed, Makes, changed_by, seals_from}
 use Rattle.store_core.proofs.CoreRuns.{runs_before, core_run}
 use Rattle.store_core.proofs.OwnParts.{all_part, all_own, own_begin, own_claim, own_abort, own_open, own_read, own_drop, own_set, own_stat, own_list, own_refused}
 use Rattle.store_core.proofs.Stepping.{ChangesOne, row_one}
 use Rattle.store_core.proofs.RootsKept.{abort_none, begin_none, end_none, list_none, open_none, read_none, stat_none}
 use Rattle.store_core.proofs.SafeSteps.{IsSafeFor, begun_safe, claim_safe, committed_safe, deleted_safe, none_rested, runs_alone, sealed_safe_in, start_parts, still_rested, unchanged_safe, unsealed_safe}
-use Rattle.store_core.proofs.RunningOn.{seal_kept, under_way_on}
+use Rattle.store_core.proofs.RunningOn.{seal_kept, sealed_first, sealed_some, under_way_on}
+use Rattle.store_core.proofs.ManySealed.{all_sealed, all_taken, may_placed, rest_on, room_left}
 
 -- where a step leads, by these changes
 pub record Next (S : List ℕ → Type 0) (s : Store) (changes : List StoreChange) (stored : Stored) (old new : CoreState) : Type 0 where
@@ -150,33 +158,37 @@ module _ (among : ByteSet) (s : Store) (stored : Stored) (old new : CoreState) (
     whole = kept_whole kept;
   }
 
-  -- a step that makes a change
-  pub makes : (change : StoreChange) (later : Stored) → last_sequence (changed change s) ≡ later.last → Makes change old new
-      → ((then : PlaceMap) → new.known ≡ Some then → HasReserve (HasKey then) (changed change s).held) → HasFree (changed change s).held → IsLater old.disk new.disk
-      → StandsFor (Stands (IsIn among) (changed change s) later.files) new.disk
-      → ((then : PlaceMap) → new.known ≡ Some then → IndexesFiles then stored.files → IndexesFiles then later.files)
-      → ((then : PlaceMap) (after : List ℕ) → new.known ≡ Some then → new.disk.content ≡ Some after
-      → KeepsCopies (HasKey at.index) s content (changed change s) after × HoldsPart (HasKey then) (changed change s).held after (part_of new.parts actor))
-      → ((then : PlaceMap) → new.known ≡ Some then → IsSafeFor then (changed change s) later new) → NextOn (IsIn among) s (change ∷ []) later old new
-  makes change later last made reserve free_then goes stands files_on keeps safe =
-      let known = made.tells at.index at.index_known in
-      let keys : (key : List ℕ) → HasKey at.index key → HasKey known.0 key = made.keeps_keys at.index at.index_known known.0 known.1 in
-      let represents = made.represents.store_has s at.represents at.valid free in
-      record {
-        next = record {
-          store = changed change s;
-          chain = (made.can.store_has s at.represents at.valid free, refl);
-          is_at = arrive (IsIn among) (changed change s) later new known.0 (reserve known.0 known.1) free_then represents known.1
-              (made.valid.store_has s at.represents at.valid free) stands (represents.names_are.last_is ∙ last)
-              (files_on known.0 known.1 (λ key need. keys key (invariant.files_are_indexed key need)))
-              (λ image is. let kept = keeps known.0 image known.1 is in all_hold known.0 (changed change s) image keys kept.0 kept.1) many_here under_way (safe known.0 known.1);
-        };
-        keys = λ first then is after key has. made.keeps_keys first is then after key has;
-        copies = λ first before after is is_before is_after. let same : content ≡ before = some_same content before (sym told ∙ is_before) in
-            subst (λ (m : PlaceMap). KeepsCopies (HasKey m) s before (changed change s) after) (same_index first is)
-            (subst (λ (bytes : List ℕ). KeepsCopies (HasKey at.index) s bytes (changed change s) after) same (keeps known.0 after known.1 is_after).0);
-        whole = λ whole. made.whole.store_has s at.represents at.valid free whole;
-      }
+  -- a step that makes changes
+  module _ (changes : List StoreChange) where
+    abbrev after : Store
+    after = changed_by changes s
+
+    pub makes : (later : Stored) → last_sequence (changed_by changes s) ≡ later.last → Makes changes old new
+        → ((then : PlaceMap) → new.known ≡ Some then → HasReserve (HasKey then) (changed_by changes s).held) → HasFree (changed_by changes s).held → IsLater old.disk new.disk
+        → StandsFor (Stands (IsIn among) (changed_by changes s) later.files) new.disk
+        → ((then : PlaceMap) → new.known ≡ Some then → IndexesFiles then stored.files → IndexesFiles then later.files)
+        → ((then : PlaceMap) (image : List ℕ) → new.known ≡ Some then → new.disk.content ≡ Some image
+        → KeepsCopies (HasKey at.index) s content (changed_by changes s) image × HoldsPart (HasKey then) (changed_by changes s).held image (part_of new.parts actor))
+        → ((then : PlaceMap) → new.known ≡ Some then → IsSafeFor then (changed_by changes s) later new) → NextOn (IsIn among) s changes later old new
+    makes later last made reserve free_then goes stands files_on keeps safe =
+        let known = made.tells at.index at.index_known in
+        let keys : (key : List ℕ) → HasKey at.index key → HasKey known.0 key = made.keeps_keys at.index at.index_known known.0 known.1 in
+        let represents = made.represents.store_has s at.represents at.valid free in
+        record {
+          next = record {
+            store = after;
+            chain = made.can.store_has s at.represents at.valid free;
+            is_at = arrive (IsIn among) after later new known.0 (reserve known.0 known.1) free_then represents known.1
+                (made.valid.store_has s at.represents at.valid free) stands (represents.names_are.last_is ∙ last)
+                (files_on known.0 known.1 (λ key need. keys key (invariant.files_are_indexed key need)))
+                (λ image is. let kept = keeps known.0 image known.1 is in all_hold known.0 after image keys kept.0 kept.1) many_here under_way (safe known.0 known.1);
+          };
+          keys = λ first then is after_is key has. made.keeps_keys first is then after_is key has;
+          copies = λ first before image is is_before is_after. let same : content ≡ before = some_same content before (sym told ∙ is_before) in
+              subst (λ (m : PlaceMap). KeepsCopies (HasKey m) s before after image) (same_index first is)
+              (subst (λ (bytes : List ℕ). KeepsCopies (HasKey at.index) s bytes after image) same (keeps known.0 image known.1 is_after).0);
+          whole = λ whole. made.whole.store_has s at.represents at.valid free whole;
+        }
 
 -- ---- refusals that are no failed writes
 
@@ -193,10 +205,23 @@ may_seal : (S : List ℕ → Type 0) (k : Kind) (s : Segment) → IsStepSegment 
 may_seal S kind.Leaf s right among = record { of_kind = tt; among = among }
 may_seal S kind.Tree s right among = record { of_kind = record { node = _; right = right.bytes.node; level_is = sym right.level; spelled = right.bytes.spelled }; among = tt }
 
-pub may_seal_all : (S : List ℕ → Type 0) (k : Kind) (segments : List Segment) → AreStepSegments k segments → AllByRecursion (λ s. IsAmong S k s.bytes) segments
+may_seal_all : (S : List ℕ → Type 0) (k : Kind) (segments : List Segment) → AreStepSegments k segments → AllByRecursion (λ s. IsAmong S k s.bytes) segments
     → AllByRecursion (MaySeal S k) segments
 may_seal_all S k [] right among = tt
 may_seal_all S k (s ∷ ss) right among = (may_seal S k s right.0 among.0, may_seal_all S k ss right.1 among.1)
+
+pub may_seal_each : (S : List ℕ → Type 0) (offered : List Contents) → AreStepContents offered → AreAmong S offered
+    → AllByRecursion (λ c. AllByRecursion (MaySeal S c.kind) c.segments) offered
+may_seal_each S [] right among = tt
+may_seal_each S (c ∷ cs) right among = (may_seal_all S c.kind c.segments right.0 among.0, may_seal_each S cs right.1 among.1)
+
+-- those for which there is room
+pub may_offer : (S : List ℕ → Type 0) (t : Tables) (offered : List Contents) (s : Store) → AllByRecursion (λ c. AllByRecursion (MaySeal S c.kind) c.segments) offered
+    → MayAllSeal S (offer_in t offered s)
+may_offer S t offered s may =
+    let n : ℕ = sealed_of (length offered) (free_slots s.held) t.held.last_id in
+    may_placed S (closed_from 0 s.held) (t.held.last_id + 1) (take n offered)
+    (all_taken (λ c. AllByRecursion (MaySeal S c.kind) c.segments) n offered may)
 
 -- ---- each step
 
@@ -313,73 +338,91 @@ module _ (among : ByteSet) (s : Store) (stored : Stored) (old new : CoreState) (
   own_still = own_refused among s stored.files image at.index actor buf old new here at.index_known newest_index invariant_here.files_are_indexed at.represents.names_are.names_are
       stands_here distinct holds
 
-  -- a container
-  seal_moves : (filled : Contents) (answer : Result Answer Refusal) → SealsOne filled answer old new → IsStep (asked.Seal filled)
-      → IsGivenRight (IsIn among) (asked.Seal filled) answer bytes old
-      → Moved (sealing_compared (IsIn among) (next_id old) filled s stored.files) (ending blames answer) old.disk new.disk
-  seal_moves filled answer effect right given = effect.moves.moves among s stored.files at.index at.index_known at.represents invariant_here.files_are_indexed distinct
-      (may_seal_all (IsIn among) filled.kind filled.segments right.1 given) at.stands
+  -- containers
+  module _ (offered : List Contents) (right : IsStep (asked.Seal offered)) (given : AreAmong (IsIn among) offered) where
+    may_seal_offer : MayAllSeal (IsIn among) (offer_in old.tables offered s)
+    may_seal_offer = may_offer (IsIn among) old.tables offered s (may_seal_each (IsIn among) offered right.1 given)
 
-  pub seal_holds : (filled : Contents) (answer : Result Answer Refusal) (after : List ℕ) → new.disk.content ≡ Some after → SealsOne filled answer old new
-      → IsStep (asked.Seal filled) → IsGivenRight (IsIn among) (asked.Seal filled) answer bytes old
-      → KeepsHeld at.index (ending blames answer) (next_id old) filled s image after
-  seal_holds filled answer after is effect right given = effect.moves.holds among s stored.files at.index image after at.index_known at.represents here is stands_here distinct
-      (may_seal_all (IsIn among) filled.kind filled.segments right.1 given)
+    pub seal_moves : (answer : Result Answer Refusal) → SealsSome offered answer old new
+        → Moved (sealing_all (IsIn among) (offer_in old.tables offered s) s stored.files) (ending blames answer) old.disk new.disk
+    seal_moves answer effect =
+        effect.moves.moves among s stored.files at.index at.index_known at.represents invariant_here.files_are_indexed distinct may_seal_offer at.stands
 
-  -- with the container, whatever there was to spare
-  unspared : (filled : Contents) (v : DiskView) → StandsFor (StandsSealed (IsIn among) (next_id old) filled s stored.files) v
-      → StandsFor (Stands (IsIn among) (with_sealed (next_id old) filled.kind filled.segments s) stored.files) v
-  unspared filled v stands = record { known = stands.known; each = λ c left. (stands.each c left).1 }
+    pub seal_holds : (answer : Result Answer Refusal) (after : List ℕ) → new.disk.content ≡ Some after → SealsSome offered answer old new
+        → KeepsAllHeld (HasKey at.index) (ending blames answer) (offer_in old.tables offered s) s image after
+    seal_holds answer after is effect =
+        effect.moves.holds among s stored.files at.index image after at.index_known at.represents here is stands_here distinct may_seal_offer
 
   -- a refusal that is no failed write
   stands_still : OnlyReads old.disk new.disk ⊎ StandsFor (Stands (IsIn among) s stored.files) new.disk → StandsFor (Stands (IsIn among) s stored.files) new.disk
   stands_still (inl reads) = stands_reads (Stands (IsIn among) s stored.files) old.disk new.disk at.stands reads
   stands_still (inr stands) = stands
 
-  seal_stands : (filled : Contents) (refusal : Refusal) → StopsAfter (asked.Seal filled) (Err refusal) old.acknowledged new.stop
-      → Arrives (sealing_compared (IsIn among) (next_id old) filled s stored.files) (ending_of (blames refusal)) old.disk new.disk
+  seal_stands : (offered : List Contents) (refusal : Refusal) → StopsAfter (asked.Seal offered) (Err refusal) old.acknowledged new.stop
+      → Arrives (sealing_all (IsIn among) (offer_in old.tables offered s) s stored.files) (ending_of (blames refusal)) old.disk new.disk
       → StandsFor (Stands (IsIn among) s stored.files) new.disk
-  seal_stands filled refusals.DiskWrite stops arrives = absurd (let both = sym stays ∙ stops in cc)
-  seal_stands filled refusals.DiskRead stops arrives = stands_still arrives
-  seal_stands filled refusal stops arrives = stands_still arrives
+  seal_stands offered refusals.DiskWrite stops arrives = absurd (let both = sym stays ∙ stops in cc)
+  seal_stands offered refusals.DiskRead stops arrives = stands_still arrives
+  seal_stands offered refusal stops arrives = stands_still arrives
 
-  seal_copies : (filled : Contents) (refusal : Refusal) (after : List ℕ) → StopsAfter (asked.Seal filled) (Err refusal) old.acknowledged new.stop
-      → KeepsHeld at.index (ending_of (blames refusal)) (next_id old) filled s image after → KeepsCopies AnyKey s image s after
-  seal_copies filled refusals.DiskWrite after stops keeps = absurd (let both = sym stays ∙ stops in cc)
-  seal_copies filled refusals.DiskRead after stops keeps = keeps
-  seal_copies filled refusal after stops keeps = keeps
+  seal_copies : (offered : List Contents) (refusal : Refusal) (after : List ℕ) → StopsAfter (asked.Seal offered) (Err refusal) old.acknowledged new.stop
+      → KeepsAllHeld (HasKey at.index) (ending_of (blames refusal)) (offer_in old.tables offered s) s image after → KeepsCopies AnyKey s image s after
+  seal_copies offered refusals.DiskWrite after stops keeps = absurd (let both = sym stays ∙ stops in cc)
+  seal_copies offered refusals.DiskRead after stops keeps = keeps
+  seal_copies offered refusal after stops keeps = keeps
 
-  seal_next : (filled : Contents) (answer : Result Answer Refusal) → Goes (asked.Seal filled) answer
-  seal_next filled (Ok (answers.Sealed id)) row effect collects stops right given =
-      let may = may_seal_all (IsIn among) filled.kind filled.segments right.1 given in
-      let moved = (seal_moves filled (Ok (answers.Sealed id)) effect right given).arrives in
-      let can = effect.made.can.store_has s at.represents at.valid invariant_here.has_free in
-      let next : NextOn (IsIn among) s (SealContainer (next_id old) filled.kind filled.segments ∷ []) stored old new =
-      makes among s stored old new actor at (row_one actor buf old new (asked.Seal filled) (Ok (answers.Sealed id)) row)
-      (goes_under_way (asked.Seal filled) (Ok (answers.Sealed id)) row effect collects) (SealContainer (next_id old) filled.kind filled.segments) stored last_here effect.made
-      (λ then then_is. free_reserve (HasKey then) (with_sealed (next_id old) filled.kind filled.segments s).held
-      (omega (arith, can.slot, free_sealed (next_id old) filled.kind filled.segments s can)))
-      (omega (arith, can.slot, free_sealed (next_id old) filled.kind filled.segments s can)) effect.disk.later
-      (unspared filled new.disk moved) (λ then then_is files. files)
-      (λ then after then_is is. (
-        (seal_holds filled (Ok (answers.Sealed id)) after is effect right given).0,
-        subst (λ (n : ℕ). HoldsPart (HasKey then) (with_sealed n filled.kind filled.segments s).held after (part_of new.parts actor)) row.id_is
-            (row.kept among s stored.files at.index then image after at.index_known then_is at.represents here is stands_here distinct may
+  -- those that were sealed
+  module _ (offered : List Contents) (id count : ℕ) (row : AreSealed offered id count actor old new) (effect : SealsSome offered (Ok (answers.Sealed id count)) old new) where
+    abbrev those : List StoreChange
+    those = seals_from (next_id old) (take count offered)
+
+    pub those_lead : ChangesTo (seals_from (next_id old) (take count offered)) s (changed_by (seals_from (next_id old) (take count offered)) s)
+    those_lead = effect.made.can.store_has s at.represents at.valid invariant_here.has_free
+
+    -- they are those of the offer for which there is room
+    pub those_offered : offer_in old.tables offered s ≡ in_free (next_id old) (take count offered) s
+    those_offered = ap (λ (n : ℕ). in_free (next_id old) (take n offered) s)
+        (sym ((row.room old.disk.size old.known).store_has s at.represents at.valid invariant_here.has_free))
+
+    pub those_with_all : with_all (offer_in old.tables offered s) s ≡ changed_by (seals_from (next_id old) (take count offered)) s
+    those_with_all = ap (λ (ps : List Placed). with_all ps s) those_offered ∙ all_sealed (next_id old) (take count offered) s (changed_by those s) those_lead
+
+  seal_next : (offered : List Contents) (answer : Result Answer Refusal) → Goes (asked.Seal offered) answer
+  seal_next offered (Ok (answers.Sealed id count)) row effect collects stops right given =
+      let changes : List StoreChange = seals_from (next_id old) (take count offered) in
+      let after : Store = changed_by changes s in
+      let lead = those_lead offered id count row effect in
+      let with_those = those_with_all offered id count row effect in
+      let moved = (seal_moves offered right given (Ok (answers.Sealed id count)) effect).arrives in
+      let room = room_left (next_id old) (take count offered) s after (sealed_some offered id count actor old new row) lead in
+      let copies = λ (bytes : List ℕ) (is : new.disk.content ≡ Some bytes).
+      subst (λ (t : Store). KeepsCopies (HasKey at.index) s image t bytes) with_those
+      (seal_holds offered right given (Ok (answers.Sealed id count)) bytes is effect).0 in
+      let next : NextOn (IsIn among) s changes stored old new =
+      makes among s stored old new actor at (row_one actor buf old new (asked.Seal offered) (Ok (answers.Sealed id count)) row)
+      (goes_under_way (asked.Seal offered) (Ok (answers.Sealed id count)) row effect collects) changes stored
+      (ap last_sequence (rest_on (next_id old) (take count offered) s after lead) ∙ last_here) effect.made
+      (λ then then_is. free_reserve (HasKey then) after.held room) (omega (arith, room)) effect.disk.later
+      (subst (λ (t : Store). StandsFor (Stands (IsIn among) t stored.files) new.disk) with_those moved) (λ then then_is files. files)
+      (λ then bytes then_is is. (
+        copies bytes is,
+        subst (λ (t : Store). HoldsPart (HasKey then) t.held bytes (part_of new.parts actor)) with_those
+            (row.kept among s stored.files at.index then image bytes at.index_known then_is at.represents here is stands_here distinct (may_seal_offer offered right given)
             (all_part (HoldsPart (HasKey at.index) s.held image) old.parts actor tt holds)),
       ))
-      (λ then then_is after is core holds_now. sealed_safe_in among s stored old new actor buf at filled id row effect collects then then_is after core holds_now
-      (seal_holds filled (Ok (answers.Sealed id)) after is effect right given).0) in
-      subst (λ (n : ℕ). NextOn (IsIn among) s (SealContainer n filled.kind filled.segments ∷ []) stored old new) (sym row.id_is) next
-  seal_next filled (Err refusal) row effect collects stops right given =
-      still among s stored old new actor at (row_one actor buf old new (asked.Seal filled) (Err refusal) row)
-      (goes_under_way (asked.Seal filled) (Err refusal) row effect collects) (seal_kept old new stays filled refusal old.acknowledged stops effect.kept) effect.disk.later
-      (seal_stands filled refusal stops (seal_moves filled (Err refusal) effect right given).arrives)
-      (λ after is. let copies = seal_copies filled refusal after stops (seal_holds filled (Err refusal) after is effect right given) in
+      (λ then then_is bytes is core holds_now. sealed_safe_in among s stored old new actor buf at (take count offered) row.may.pins row.may.writing row.parts_are effect.made
+      collects after lead then then_is bytes core holds_now (copies bytes is)) in
+      subst (λ (n : ℕ). NextOn (IsIn among) s (seals_from n (take count offered)) stored old new) (sym (sealed_first offered id count actor old new row)) next
+  seal_next offered (Err refusal) row effect collects stops right given =
+      still among s stored old new actor at (row_one actor buf old new (asked.Seal offered) (Err refusal) row)
+      (goes_under_way (asked.Seal offered) (Err refusal) row effect collects) (seal_kept old new stays offered refusal old.acknowledged stops effect.kept) effect.disk.later
+      (seal_stands offered refusal stops (seal_moves offered right given (Err refusal) effect).arrives)
+      (λ after is. let copies = seal_copies offered refusal after stops (seal_holds offered right given (Err refusal) after is effect) in
       let mine : KeepsCopies (HasKey at.index) s image s after = λ key level bytes counts has. copies key level bytes tt has in
       (mine, part_kept (HasKey at.index) (HasKey at.index) s s image after mine (λ key has. has) (part_of new.parts actor) (own_still row.1)))
-      (λ after is core holds_now. let copies = seal_copies filled refusal after stops (seal_holds filled (Err refusal) after is effect right given) in
-      unsealed_safe among s stored old new actor buf at filled refusal row collects after (λ key level bytes counts has. copies key level bytes tt has))
-  seal_next filled answer row effect collects stops right given = absurd row
+      (λ after is core holds_now. let copies = seal_copies offered refusal after stops (seal_holds offered right given (Err refusal) after is effect) in
+      unsealed_safe among s stored old new actor buf at offered refusal row collects after (λ key level bytes counts has. copies key level bytes tt has))
+  seal_next offered answer row effect collects stops right given = absurd row
 
   -- where nothing changes
   refused_safe : OnlyReads old.disk new.disk → new.parts ≡ old.parts → new.collection ≡ old.collection → IsSafeFor at.index s stored new
@@ -401,7 +444,7 @@ module _ (among : ByteSet) (s : Store) (stored : Stored) (old new : CoreState) (
       (record { known = at.stands.known; each = λ c is. (at.stands.each c is, tree.each c is) }) in
       let copies = effect.copies s at.represents image here stands_here.holds.right in
       makes among s stored old new actor at (row_one actor buf old new (asked.Commit name root) (Ok (answers.Committed sequence)) row)
-      (goes_under_way (asked.Commit name root) (Ok (answers.Committed sequence)) row effect collects) (ChangeName name (Put root)) (with_stored stored name bytes)
+      (goes_under_way (asked.Commit name root) (Ok (answers.Committed sequence)) row effect collects) (ChangeName name (Put root) ∷ []) (with_stored stored name bytes)
       (last_changed name (Put root) s at.valid.follow ∙ ap suc last_here) effect.made (reserve_still effect.index) invariant_here.has_free effect.disk.later
       (subst (λ (r : Root). StandsFor (Stands (IsIn among) (with_change name (Put r) s) (with_stored stored name bytes).files) new.disk) (sym given.root_is) moved.arrives)
       (λ then then_is all. reached_put (HasKey then) stored.files all name bytes
@@ -429,7 +472,7 @@ module _ (among : ByteSet) (s : Store) (stored : Stored) (old new : CoreState) (
       (record { known = at.stands.known; each = λ c is. (at.stands.each c is, tt) }) in
       let copies = effect.copies s at.represents image here stands_here.holds.right in
       makes among s stored old new actor at (row_one actor buf old new (asked.Delete name) (Ok (answers.Deleted sequence)) row)
-      (goes_under_way (asked.Delete name) (Ok (answers.Deleted sequence)) row effect collects) (ChangeName name Delete) (without_stored stored name)
+      (goes_under_way (asked.Delete name) (Ok (answers.Deleted sequence)) row effect collects) (ChangeName name Delete ∷ []) (without_stored stored name)
       (last_changed name Delete s at.valid.follow ∙ ap suc last_here) effect.made (reserve_still effect.index) invariant_here.has_free effect.disk.later
       moved.arrives (λ then then_is all. reached_less (HasKey then) stored.files all name)
       (λ then after then_is is.
@@ -464,7 +507,7 @@ module _ (among : ByteSet) (s : Store) (stored : Stored) (old new : CoreState) (
   pub step_next : (step : StepValue) (answer : Result Answer Refusal) → IsNoGcStep step → Goes step answer
   step_next asked.Begin answer other = begin_next answer
   step_next (asked.Claim seg) answer other = claim_next seg answer
-  step_next (asked.Seal filled) answer other = seal_next filled answer
+  step_next (asked.Seal offered) answer other = seal_next offered answer
   step_next (asked.Commit name root) answer other = commit_next name root answer
   step_next asked.Abort answer other = abort_next answer
   step_next (asked.OpenRead name) answer other = open_next name answer

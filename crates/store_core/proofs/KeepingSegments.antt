@@ -16,13 +16,19 @@ use Rattle.store_model.proofs.SameIndex.{same_copies}
 use Rattle.store_state.specs.Comparing.{FitsBytes}
 use Rattle.store_state.specs.Settled.{KeepsWhatCounts}
 use Rattle.ingest_steps.proofs.HeldPins.{node_of}
-use Rattle.store_core.specs.Keeping.{kept_by, kept_of, IsHeldIn, KeepsSegments, StaysHeld}
+use Rattle.std.specs.Prelude.{take}
+use Rattle.store_model.specs.Together.{Placed}
+use Rattle.ingest_steps.specs.Offering.{offer_in}
+use Rattle.store_core.specs.Core.{changed_by, seals_from}
+use Rattle.store_core.specs.Keeping.{segments_in, kept_by, kept_of, IsHeldIn, KeepsSegments, StaysHeld}
 use Rattle.store_core.proofs.CoreRuns.{running_step, was_running}
 use Rattle.gc_sweep.specs.declared.sweep.Next.{Next}
 use Rattle.store_core.proofs.AnySteps.{any_step, gc_or_not, other_leads, with_step}
 use Rattle.store_core.proofs.GcSteps.{end_reads}
 use Rattle.store_core.proofs.Leading.{Leads}
-use Rattle.store_core.proofs.KeepingFiles.{file_step, run_running, only_reads, seal_holds, NextOn}
+use Rattle.store_core.proofs.KeepingFiles.{file_step, run_running, only_reads, seal_holds, those_lead, those_offered, those_with_all, NextOn}
+use Rattle.store_core.proofs.ManySealed.{all_free, keys_added, leads_once}
+use Rattle.store_core.proofs.RunningOn.{sealed_first}
 use Rattle.gc_sweep.proofs.KeyLists.{both_so, each_so}
 
 -- ---- lists
@@ -104,18 +110,18 @@ module _ (old new : CoreState) (stays : new.stop ≡ None) (given : List ℕ) (h
       let other = counts_given keeps c image in
       record { size = other.size ∙ sym mine.size; before = λ p n within. other.before p n within ∙ sym (mine.before p n within) }
 
-  seal_settled : (filled : Contents) (refusal : Refusal) → StopsAfter (asked.Seal filled) (Err refusal) old.acknowledged new.stop
+  seal_settled : (offered : List Contents) (refusal : Refusal) → StopsAfter (asked.Seal offered) (Err refusal) old.acknowledged new.stop
       → Left old.tables.slots (ending_of (blames refusal)) old.disk new.disk → Settled
-  seal_settled filled refusals.DiskWrite stops left = absurd (let both = sym stays ∙ stops in cc)
-  seal_settled filled refusals.DiskRead stops left = counts_settled left
-  seal_settled filled refusal stops left = counts_settled left
+  seal_settled offered refusals.DiskWrite stops left = absurd (let both = sym stays ∙ stops in cc)
+  seal_settled offered refusals.DiskRead stops left = counts_settled left
+  seal_settled offered refusal stops left = counts_settled left
 
   pub effect_settled : (step : StepValue) (answer : Result Answer Refusal) → IsNoGcStep step → StopsAfter step answer old.acknowledged new.stop → Effect step answer old new
       → Settled
   effect_settled asked.Begin answer other stops effect = reads_settled effect.disk.only
   effect_settled (asked.Claim seg) answer other stops effect = reads_settled effect.disk.only
-  effect_settled (asked.Seal filled) (Ok answer) other stops effect = effect.disk.left settled
-  effect_settled (asked.Seal filled) (Err refusal) other stops effect = seal_settled filled refusal stops effect.disk.left
+  effect_settled (asked.Seal offered) (Ok answer) other stops effect = effect.disk.left settled
+  effect_settled (asked.Seal offered) (Err refusal) other stops effect = seal_settled offered refusal stops effect.disk.left
   effect_settled (asked.Commit name root) (Ok answer) other stops effect = durable_settled effect.durable
   effect_settled (asked.Commit name root) (Err refusal) other stops effect = reads_settled (only_reads old new stays (asked.Commit name root) refusal stops effect.disk.ends)
   effect_settled (asked.Delete name) (Ok answer) other stops effect = durable_settled effect.durable
@@ -234,24 +240,42 @@ module _ (among : ByteSet) (s : Store) (stored later : Stored) (old new : CoreSt
   claim_kept seg (Err refusal) row next then then_is after is effect right given = tt
   claim_kept seg answer row next then then_is after is effect right given = absurd row
 
-  seal_kept : (filled : Contents) (answer : Result Answer Refusal) → SealRow filled actor answer old new → Kept (asked.Seal filled) answer
-  seal_kept filled (Ok (answers.Sealed id)) row next then then_is after is effect right given =
-      let holds = (seal_holds among s stored old new actor buf bytes distinct at stays filled (Ok (answers.Sealed id)) after is effect right given).1 in
-      let store : next.next.store ≡ with_sealed (next_id old) filled.kind filled.segments s = next.next.chain.1
-      ∙ ap (λ (n : ℕ). with_sealed n filled.kind filled.segments s) row.id_is in
-      let there = subst (λ (t : Store). AllByRecursion (λ x. HasNewest t.held (segment_key filled.kind x) x.level x.bytes after) filled.segments) (sym store) holds in
-      let keys = effect.made.adds_keys at.index at.index_known then then_is in
-      all_map (λ x. HasKey then (segment_key filled.kind x) × HasNewest next.next.store.held (segment_key filled.kind x) x.level x.bytes after)
-      (HoldsSegment then next.next.store after) (λ x. record { kind = filled.kind; segment = x })
-      filled.segments
-      (λ x both. (both.0, sealed_held (IsIn among) next.next.store later.files after (next.next.is_at.stands.each after (new.disk.as_read after is)) filled.kind x both.1))
-      (all_two (λ x. HasKey then (segment_key filled.kind x)) (λ x. HasNewest next.next.store.held (segment_key filled.kind x) x.level x.bytes after) filled.segments keys there)
-  seal_kept filled (Err refusal) row next then then_is after is effect right given = tt
-  seal_kept filled answer row next then then_is after is effect right given = absurd row
+  -- each segment of a container that is sealed
+  seals_kept : (then : PlaceMap) (t : Store) (files : Files) (after : List ℕ) → Stands (IsIn among) t files after → (cs : List Contents)
+      → AllByRecursion (λ c. AllByRecursion (λ x. HasKey then (segment_key c.kind x)) c.segments) cs
+      → AllByRecursion (λ c. AllByRecursion (λ x. HasNewest t.held (segment_key c.kind x) x.level x.bytes after) c.segments) cs
+      → AllByRecursion (HoldsSegment then t after) (segments_in cs)
+  seals_kept then t files after stands [] keys has = tt
+  seals_kept then t files after stands (c ∷ cs) keys has =
+      both_so (HoldsSegment then t after) (map (λ x. record { kind = c.kind; segment = x }) c.segments) (segments_in cs)
+      (all_map (λ x. HasKey then (segment_key c.kind x) × HasNewest t.held (segment_key c.kind x) x.level x.bytes after)
+      (HoldsSegment then t after) (λ x. record { kind = c.kind; segment = x }) c.segments
+      (λ x both. (both.0, sealed_held (IsIn among) t files after stands c.kind x both.1))
+      (all_two (λ x. HasKey then (segment_key c.kind x)) (λ x. HasNewest t.held (segment_key c.kind x) x.level x.bytes after) c.segments keys.0 has.0))
+      (seals_kept then t files after stands cs keys.1 has.1)
+
+  seal_kept : (offered : List Contents) (answer : Result Answer Refusal) → SealRow offered actor answer old new → Kept (asked.Seal offered) answer
+  seal_kept offered (Ok (answers.Sealed id count)) row next then then_is after is effect right given =
+      let first : ℕ = next_id old in
+      let cs : List Contents = take count offered in
+      let all = (seal_holds among s stored old new actor buf bytes distinct at stays offered right given (Ok (answers.Sealed id count)) after is effect).1 in
+      let lead = those_lead among s stored old new actor buf bytes distinct at stays offered id count row effect in
+      let offer_is = those_offered among s stored old new actor buf bytes distinct at stays offered id count row effect in
+      let with_those = those_with_all among s stored old new actor buf bytes distinct at stays offered id count row effect in
+      let store : changed_by (seals_from first cs) s ≡ next.next.store = leads_once (seals_from first cs) s (changed_by (seals_from first cs) s) next.next.store lead
+      (subst (λ (n : ℕ). ChangesTo (seals_from n cs) s next.next.store) (sealed_first offered id count actor old new row) next.next.chain) in
+      let P : Store → Kind → List Segment → Type 0 = λ t kind segments. AllByRecursion (λ x. HasNewest t.held (segment_key kind x) x.level x.bytes after) segments in
+      let there = subst (λ (t : Store). AllByRecursion (λ (p : Placed). P t p.kind p.segments) (offer_in old.tables offered s)) (with_those ∙ store) all in
+      let has = all_free (P next.next.store) first cs s (changed_by (seals_from first cs) s) lead
+      (subst (AllByRecursion (λ (p : Placed). P next.next.store p.kind p.segments)) offer_is there) in
+      seals_kept then next.next.store later.files after (next.next.is_at.stands.each after (new.disk.as_read after is)) cs
+      (keys_added first cs then (effect.made.adds_keys at.index at.index_known then then_is)) has
+  seal_kept offered (Err refusal) row next then then_is after is effect right given = tt
+  seal_kept offered answer row next then then_is after is effect right given = absurd row
 
   step_kept : (step : StepValue) (answer : Result Answer Refusal) → Row step actor answer buf old new → Kept step answer
   step_kept (asked.Claim seg) answer row = claim_kept seg answer row
-  step_kept (asked.Seal filled) answer row = seal_kept filled answer row
+  step_kept (asked.Seal offered) answer row = seal_kept offered answer row
   step_kept step answer row = λ next then then_is after is effect right given. tt
 
 -- a disk that was settled is settled, whatever the step

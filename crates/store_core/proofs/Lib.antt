@@ -11,6 +11,7 @@ pub mod Crashes
 pub mod Damage
 pub mod FindingKeys
 pub mod FindingMeanwhile
+pub mod FilledSlots
 pub mod Flushed
 pub mod Frames
 pub mod GcSteps
@@ -19,6 +20,7 @@ pub mod KeepingSegments
 pub mod Leading
 pub mod Making
 pub mod MakingGc
+pub mod ManySealed
 pub mod MarkedSteps
 pub mod Marks
 pub mod Opened
@@ -31,3 +33,4 @@ pub mod RootsKept
 pub mod SafeSteps
 pub mod Sealing
 pub mod Stepping
+pub mod UnderWayOn

@@ -22,7 +22,7 @@ pub collects_same : (step : StepValue) (answer : Result Answer Refusal) (old new
     → Collects step answer old other
 collects_same (asked.Claim seg) answer old new other same collects = subst (λ (c : Option Collection). MarksIn (IsKeptKey (asked.Claim seg) answer) old.collection c)
     (sym same) collects
-collects_same (asked.Seal filled) answer old new other same collects = subst (λ (c : Option Collection). MarksIn (IsKeptKey (asked.Seal filled) answer) old.collection c)
+collects_same (asked.Seal offered) answer old new other same collects = subst (λ (c : Option Collection). MarksIn (IsKeptKey (asked.Seal offered) answer) old.collection c)
     (sym same) collects
 collects_same (asked.GcStart percent) answer old new other same collects = tt
 collects_same asked.GcStep answer old new other same collects = tt

@@ -1,5 +1,5 @@
 -- What a claim or a seal makes of a core, where what it keeps becomes live, too.
-use Rattle.store_core.proofs.Prelude.{◌≡◌, ◌↔◌, ℕ, Bool, true, false, List, Option, Result, Ok, Err, refl, sym, subst, map, KindSegment, segment_key, reads_here, Answer, Refusal, StoreChange, SealContainer, Collection, IsKeptKey, MarksIn, Restores, ClaimRow, KeepsTables, KeepsUnlessBroken, Made, SealRow, SealsOne, next_id, CoreState, Stop}
+use Rattle.store_core.proofs.Prelude.{◌≡◌, ◌↔◌, ℕ, Bool, true, false, List, Option, None, Result, Ok, Err, refl, sym, ◌∙◌, subst, length, take, Runs, KindSegment, segment_key, reads_here, Answer, Refusal, StoreChange, Collection, IsKeptKey, MarksIn, Restores, ClaimRow, KeepsTables, KeepsUnlessBroken, Made, SealRow, SealsSome, next_id, CoreState, Stop}
 use Rattle.std.proofs.Common.{IsErr, IsTrue}
 use Rattle.std.specs.List.{Contains}
 use Rattle.std.specs.Result.{is_ok}
@@ -7,10 +7,12 @@ use Rattle.container_meta.specs.Segments.{Contents}
 use Rattle.actor_parts.specs.declared.step.Answer.TheVariants as answers
 use Rattle.actor_parts.specs.StepValue as asked
 use Rattle.refusals.specs.declared.refusal.Refusal.TheVariants as refusals
-use Rattle.ingest_steps.proofs.AfterReads.{seals_refused_by}
+use Rattle.dd_disk.specs.Ending.{NoCall}
+use Rattle.ingest_steps.specs.Offering.{IsRoomFor, offer_in}
+use Rattle.ingest_steps.proofs.PlacedOn.{placed_read}
 use Rattle.ingest_steps.proofs.StepRefusals.{steps_here}
-use Rattle.store_core.specs.Collecting.{IsHeldAnswer}
-use Rattle.store_core.specs.Core.{Makes}
+use Rattle.store_core.specs.Collecting.{IsHeldAnswer, keys_in}
+use Rattle.store_core.specs.Core.{Makes, sealed_by}
 
 -- ---- a step that is so whatever collection runs
 
@@ -38,14 +40,24 @@ module _ (old new : CoreState) (was now : Option Collection) where
     served = made.served;
   }
 
-  seal_row : (filled : Contents) (actor : ℕ) (answer : Result Answer Refusal) → SealRow filled actor answer before after → SealRow filled actor answer old new
-  seal_row filled actor
-      (Ok (answers.Sealed id)) row = record { may = row.may; compared = row.compared; id_is = row.id_is; last_is = row.last_is; parts_are = row.parts_are; kept = row.kept }
-  seal_row filled actor (Err refusal) row = row
-  seal_row filled actor answer row = absurd row
+  seal_row : (offered : List Contents) (actor : ℕ) (answer : Result Answer Refusal) → SealRow offered actor answer before after → SealRow offered actor answer old new
+  seal_row offered actor (Ok (answers.Sealed id count)) row = record {
+    offer = row.offer;
+    may = row.may;
+    room = row.room;
+    some = row.some;
+    few = row.few;
+    compared = row.compared;
+    id_is = row.id_is;
+    last_is = row.last_is;
+    parts_are = row.parts_are;
+    kept = row.kept;
+  }
+  seal_row offered actor (Err refusal) row = row
+  seal_row offered actor answer row = absurd row
 
-  makes_alike : (change : StoreChange) → Makes change before after → Makes change old new
-  makes_alike change makes = record {
+  makes_alike : (changes : List StoreChange) → Makes changes before after → Makes changes old new
+  makes_alike changes makes = record {
     can = makes.can;
     represents = makes.represents;
     valid = makes.valid;
@@ -64,26 +76,29 @@ module _ (old new : CoreState) (was now : Option Collection) where
   unless_broken (refusals.Damaged at_byte why) keeps = keeps
   unless_broken refusal keeps = keeps_alike keeps
 
-  seal_effect : (filled : Contents) (answer : Result Answer Refusal) → SealsOne filled answer before after → SealsOne filled answer old new
-  seal_effect filled
-      (Ok x) effect = record { disk = effect.disk; moves = effect.moves; made = makes_alike (SealContainer (next_id old) filled.kind filled.segments) effect.made; kept = tt }
-  seal_effect filled (Err refusal) effect = record { disk = effect.disk; moves = effect.moves; made = tt; kept = unless_broken refusal effect.kept }
+  seal_effect : (offered : List Contents) (answer : Result Answer Refusal) → SealsSome offered answer before after → SealsSome offered answer old new
+  seal_effect offered (Ok x) effect = record {
+    disk = effect.disk;
+    moves = effect.moves;
+    made = makes_alike (sealed_by offered (Ok x) (next_id old)) effect.made;
+    kept = tt;
+  }
+  seal_effect offered (Err refusal) effect = record { disk = effect.disk; moves = effect.moves; made = tt; kept = unless_broken refusal effect.kept }
 
-  pub seal_alike : (filled : Contents) (actor : ℕ) (answer : Result Answer Refusal) (buf : List ℕ) → Made (asked.Seal filled) actor answer buf before after
-      → Made (asked.Seal filled) actor answer buf old new
-  seal_alike filled actor answer buf made = record { row = seal_row filled actor answer made.row; effect = seal_effect filled answer made.effect; served = made.served }
+  pub seal_alike : (offered : List Contents) (actor : ℕ) (answer : Result Answer Refusal) (buf : List ℕ) → Made (asked.Seal offered) actor answer buf before after
+      → Made (asked.Seal offered) actor answer buf old new
+  seal_alike offered actor answer buf made = record { row = seal_row offered actor answer made.row; effect = seal_effect offered answer made.effect; served = made.served }
 
 -- ---- no memory for the marks
 
 -- Nothing changed but the collection.
-pub seal_without_memory : (filled : Contents) (actor : ℕ) (buf : List ℕ) (old : CoreState) (now : Option Collection) (stop : Option Stop) (count : ℕ)
-    → Made (asked.Seal filled) actor (Err refusals.Memory) buf old (record old { collection = now; stop = stop; acknowledged = count })
-seal_without_memory filled actor buf old now stop count = record {
+pub seal_without_memory : (offered : List Contents) (actor : ℕ) (buf : List ℕ) (old : CoreState) (now : Option Collection) (stop : Option Stop) (count : ℕ)
+    → Made (asked.Seal offered) actor (Err refusals.Memory) buf old (record old { collection = now; stop = stop; acknowledged = count })
+seal_without_memory offered actor buf old now stop count = record {
   row = (tt, refl);
   effect = record {
     disk = steps_here old.tables.slots _ old.disk refl;
-    moves = seals_refused_by old.tables (next_id old) filled old.disk old.disk (reads_here old.disk) {T = Answer} old.known (Err refusals.Memory)
-        (λ refusal. refusal ≡ refusals.Memory) refl;
+    moves = placed_read old.tables old.known (offer_in old.tables offered) NoCall old.disk old.disk (reads_here old.disk);
     made = tt;
     kept = record { tables_are = refl; index_is = refl };
   };
@@ -117,13 +132,18 @@ module _ (old marked new : Option Collection) (fresh : List (List ℕ)) (restore
       (subst (λ (x : List ℕ). MarksIn (λ k. k ≡ x) old marked) is marks)
   claim_collects seg answer key kept is marks tells same undone = not_kept kept tells.0 undone
 
-  pub seal_collects : (filled : Contents) (actor : ℕ) (answer : Result Answer Refusal) (s t : CoreState) (kept : Bool) → SealRow filled actor answer s t
-      → MarksIn (Contains (map (segment_key filled.kind) filled.segments)) old marked → kept ≡ is_ok answer → (kept ≡ true → new ≡ marked) → Undone kept
-      → MarksIn (IsKeptKey (asked.Seal filled) answer) old new
-  seal_collects filled actor (Ok (answers.Sealed id)) s t kept row marks is same undone =
-      subst (λ (x : Option Collection). MarksIn (Contains (map (segment_key filled.kind) filled.segments)) old x) (sym (same is)) marks
-  seal_collects filled actor (Err refusal) s t kept row marks is same undone = undone is old restores
-  seal_collects filled actor answer s t kept row marks is same undone = absurd row
+  -- just those were marked for which there is room
+  pub seal_collects : (offered : List Contents) (actor : ℕ) (answer : Result Answer Refusal) (s t : CoreState) (kept : Bool) (room : ℕ) → SealRow offered actor answer s t
+      → Runs s.disk.size None s.tables → IsRoomFor s.tables (length offered) room
+      → MarksIn (Contains (keys_in (take room offered))) old marked → kept ≡ is_ok answer → (kept ≡ true → new ≡ marked) → Undone kept
+      → MarksIn (IsKeptKey (asked.Seal offered) answer) old new
+  seal_collects offered actor (Ok (answers.Sealed id count)) s t kept room row runs enough marks is same undone =
+      let here = (enough s.disk.size None).store_has runs.store runs.represents runs.valid runs.has_free in
+      let there = (row.room s.disk.size None).store_has runs.store runs.represents runs.valid runs.has_free in
+      subst (λ (x : Option Collection). MarksIn (Contains (keys_in (take count offered))) old x) (sym (same is))
+      (subst (λ (n : ℕ). MarksIn (Contains (keys_in (take n offered))) old marked) (here ∙ sym there) marks)
+  seal_collects offered actor (Err refusal) s t kept room row runs enough marks is same undone = undone is old restores
+  seal_collects offered actor answer s t kept room row runs enough marks is same undone = absurd row
 
 -- none did, where a step is refused
 pub claim_refused : (seg : KindSegment) (answer : Result Answer Refusal) (old new : Option Collection) → IsErr answer → MarksIn (λ k. ⊥) old new
@@ -131,7 +151,7 @@ pub claim_refused : (seg : KindSegment) (answer : Result Answer Refusal) (old ne
 claim_refused seg (Ok x) old new is marks = absurd cc
 claim_refused seg (Err refusal) old new is marks = marks
 
-pub seal_refused : (filled : Contents) (answer : Result Answer Refusal) (old new : Option Collection) → IsErr answer → MarksIn (λ k. ⊥) old new
-    → MarksIn (IsKeptKey (asked.Seal filled) answer) old new
-seal_refused filled (Ok x) old new is marks = absurd cc
-seal_refused filled (Err refusal) old new is marks = marks
+pub seal_refused : (offered : List Contents) (answer : Result Answer Refusal) (old new : Option Collection) → IsErr answer → MarksIn (λ k. ⊥) old new
+    → MarksIn (IsKeptKey (asked.Seal offered) answer) old new
+seal_refused offered (Ok x) old new is marks = absurd cc
+seal_refused offered (Err refusal) old new is marks = marks

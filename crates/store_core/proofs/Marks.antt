@@ -1,8 +1,12 @@
 -- What becomes live where a collection runs.
-use Rattle.store_core.proofs.Prelude.{some_same, ◌≡◌, ◌↔◌, ◌⊎◌, ◌≤◌, ◌+◌, inl, inr, ℕ, List, [], ◌∷◌, length, map, take, Option, Some, None, Result, Ok, Err, refl, sym, ◌∙◌, ap, subst, key_of, Entry, Kind, kind_byte, Segment, entries_from, segment_key, IsLiveAt, LiveKeys, Collection, Marks, contains_none, marks_none, MarksIn, Restores}
+use Rattle.store_core.proofs.Prelude.{some_same, ◌≡◌, ◌↔◌, ◌⊎◌, ◌≤◌, ◌+◌, inl, inr, ℕ, zero, suc, List, [], ◌∷◌, length, map, take, Option, Some, None, Result, Ok, Err, refl, sym, ◌∙◌, ap, subst, Entry, Kind, Segment, entries_from, segment_key, IsLiveAt, LiveKeys, Collection, Marks, contains_none, marks_none, MarksIn, Restores}
 use Rattle.std.proofs.Common.{OnOk, OnErr, IfOk}
 use Rattle.std.specs.List.{Contains}
-use Rattle.std.proofs.lemmas.List.{take_all}
+use Rattle.std.specs.Prelude.{◌++◌, slice_get}
+use Rattle.std.proofs.lemmas.List.{append-nil, append_assoc, take_all}
+use Rattle.container_meta.specs.Segments.{Contents, keys_of}
+use Rattle.store_model.specs.Indexing.{entry_key}
+use Rattle.store_core.specs.Collecting.{keys_in}
 use Rattle.gc_steps.specs.Fresh.{AreFresh, IsAsLive, Unmarks}
 use Rattle.gc_steps.proofs.FreshMarks.{unmarked_fresh}
 use Rattle.gc_steps.proofs.Marked.{contains_more, marks_as}
@@ -76,15 +80,20 @@ unmarks_some (Some c) now fresh mid new ran others unmarks restores =
 
 -- ---- the keys of a container
 
-abbrev pub entry_key : Kind → Entry → List ℕ
-entry_key kind e = key_of (kind_byte kind) e.digest
-
 entry_keys : (kind : Kind) (offset : ℕ) (ss : List Segment) → map (entry_key kind) (entries_from offset ss) ≡ map (segment_key kind) ss
 entry_keys kind offset [] = refl
 entry_keys kind offset (s ∷ ss) = ap (λ (ks : List (List ℕ)). segment_key kind s ∷ ks) (entry_keys kind (offset + length s.bytes) ss)
 
 -- the loop's end
-pub keys_whole : (kind : Kind) (entries : List Entry) (i : ℕ) (ss : List Segment) (keys : List (List ℕ)) → length entries ≤ i → keys ≡ map (entry_key kind) (take i entries)
-    → entries ≡ entries_from 0 ss
-    → keys ≡ map (segment_key kind) ss
-keys_whole kind entries i ss keys past are is = are ∙ ap (map (entry_key kind)) (take_all i entries past ∙ is) ∙ entry_keys kind 0 ss
+pub keys_whole : (filled : Contents) (entries : List Entry) (i : ℕ) (before keys : List (List ℕ)) → length entries ≤ i
+    → keys ≡ before ++ map (entry_key filled.kind) (take i entries) → entries ≡ entries_from 0 filled.segments
+    → keys ≡ before ++ keys_of filled
+keys_whole filled entries i before keys past are is =
+    are ∙ ap (λ (ks : List (List ℕ)). before ++ ks) (ap (map (entry_key filled.kind)) (take_all i entries past ∙ is) ∙ entry_keys filled.kind 0 filled.segments)
+
+-- those of one container more
+pub keys_next : (cs : List Contents) (i : ℕ) (c : Contents) → slice_get cs i ≡ Some c → keys_in (take (suc i) cs) ≡ keys_in (take i cs) ++ keys_of c
+keys_next [] i c here = absurd cc
+keys_next (x ∷ xs) zero c here =
+    append-nil (keys_of x) ∙ ap keys_of (some_same x c here)
+keys_next (x ∷ xs) (suc i) c here = ap (λ (ks : List (List ℕ)). keys_of x ++ ks) (keys_next xs i c here) ∙ sym (append_assoc (keys_of x) (keys_in (take i xs)) (keys_of c))

@@ -83,7 +83,6 @@ pub use Rattle.gc_sweep.specs.declared.sweep.Sweep.{Sweep as SweepValue}
 pub use Rattle.ingest_steps.proofs.RecordFrames.{record_alone}
 pub use Rattle.ingest_steps.specs.Naming.{ChangesBytes}
 pub use Rattle.ingest_steps.specs.Pinning.{with_pins}
-pub use Rattle.ingest_steps.specs.Sealing.{ChangesSlotAlone, HasSlot, SameButSlotOf, StandsSealed}
 pub use Rattle.journal_cells.specs.Journal.{JournalValue}
 pub use Rattle.merkle_file.specs.declared.top.Top.{Top}
 pub use Rattle.namespace.specs.Names.{NameMap}
@@ -99,12 +98,12 @@ pub use Rattle.segment_index.specs.Places.{HasPlaces}
 pub use Rattle.sha2.specs.Sha256.{sha256}
 pub use Rattle.store_core.specs.Bounds.{IsNoEnd, NoneEnds, starts}
 pub use Rattle.store_core.specs.Collecting.{Collects, GcEffect, GcRow, GoesOn, HasEnded, IsKeptKey, IsNotMade, MarksIn, Restores, StartRow, TouchesBy, at_moment}
-pub use Rattle.store_core.specs.Core.{AbortRow, BeginRow, ClaimRow, CommitRow, CoreStep, DeleteRow, Effect, EndRow, IndexesAll, IsNotGiven, KeepsTables, KeepsUnlessBroken, ListRow, Made, NamesOne, OpenRow, ReadRow, Rests, Row, SealRow, SealsOne, StatRow, Steps, StepsOr, StopsAfter, counted, next_id}
+pub use Rattle.store_core.specs.Core.{AbortRow, BeginRow, ChangesTo, ClaimRow, CommitRow, CoreStep, DeleteRow, Effect, EndRow, IndexesAll, IsNotGiven, KeepsTables, KeepsUnlessBroken, ListRow, Made, NamesOne, OpenRow, ReadRow, Rests, Row, SealRow, SealsSome, StatRow, Steps, StepsOr, StopsAfter, counted, next_id}
 pub use Rattle.store_core.specs.Finding.{IsNoSweep}
 pub use Rattle.store_core.specs.Frame.{IsOn, KeepsBytes}
 pub use Rattle.store_core.specs.Opening.{LeavesUnread}
 pub use Rattle.store_core.specs.Releases.{SweepsSpare, copied_in, freed_in}
-pub use Rattle.store_core.specs.Runs.{AreNoGcSteps, ChangesTo, CoreRun, FileEvent, FileRun, FileStep, IsAt, IsGivenRight, IsNoGcStep, IsSafeIn, changes_by, changes_of, events_of, opens, stored_after, stored_by, stored_with}
+pub use Rattle.store_core.specs.Runs.{AreNoGcSteps, CoreRun, FileEvent, FileRun, FileStep, IsAt, IsGivenRight, IsNoGcStep, IsSafeIn, changes_by, changes_of, events_of, opens, stored_after, stored_by, stored_with}
 pub use Rattle.store_core.specs.State.{CoreState, Event, IsRunning, IsUnderWayIn, IsUp, UnlessStopped}
 pub use Rattle.store_core.specs.declared.stop.Stop.{Stop}
 pub use Rattle.store_model.proofs.Copies.{copy_digest, headers_of_right, some_same}

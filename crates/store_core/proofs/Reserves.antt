@@ -1,16 +1,25 @@
 -- Two slots stay closed over steps that are none of a collection.
-use Rattle.store_core.proofs.Prelude.{◌≡◌, ◌≢◌, inl, inr, ℕ, zero, suc, ◌+◌, ◌<◌, ◌≤◌, List, [], ◌∷◌, length, Option, Some, None, Result, Ok, Err, refl, sym, ◌∙◌, ap, subst, arith, range, KnownWith, HeaderValue, OnlyReads, SteppedFrom, Change, Delete, Put, half_cells, size_of, slot_at, RESERVE, SLOT_BYTES, Answer, StepValue, JournalValue, Refusal, Store, Encodes, with_freed, HoldsSlot, first_free, free_slots, without_slot, StoreChange, SealContainer, ChangeName, FlushContainer, FreeContainer, with_change, with_sealed, free_sealed, IsSettled, ChangesBytes, ChangesSlotAlone, HasSlot, record_alone, Stop, CoreStep, Effect, NamesOne, Row, SealsOne, Steps, StepsOr, StopsAfter, IsOn, KeepsBytes, AreNoGcSteps, ChangesTo, CoreRun, IsNoGcStep, changes_by, CoreState, Event}
-use Rattle.std.specs.Prelude.{slice_get}
+use Rattle.store_core.proofs.Prelude.{◌≡◌, inl, inr, ℕ, zero, suc, ◌+◌, ◌<◌, ◌≤◌, List, [], ◌∷◌, length, Option, Some, None, Result, Ok, refl, sym, ◌∙◌, ap, subst, arith, range, KnownWith, HeaderValue, OnlyReads, SteppedFrom, Change, Delete, Put, half_cells, size_of, slot_at, RESERVE, SLOT_BYTES, Answer, StepValue, JournalValue, Refusal, Store, Encodes, with_freed, HoldsSlot, free_slots, without_slot, StoreChange, SealContainer, ChangeName, FlushContainer, FreeContainer, with_change, with_sealed, free_sealed, IsSettled, ChangesBytes, record_alone, Stop, CoreStep, Effect, NamesOne, Row, SealsSome, Steps, StepsOr, StopsAfter, IsOn, KeepsBytes, AreNoGcSteps, ChangesTo, CoreRun, IsNoGcStep, changes_by, CoreState, Event}
+use Rattle.std.proofs.lemmas.List.{length-take}
+use Rattle.std.specs.Prelude.{◌-◌, slice_get, take}
+use Rattle.actor_parts.specs.Offers.{sealed_of}
+use Rattle.container_meta.specs.Segments.{Contents}
+use Rattle.store_model.specs.Together.{Placed, with_all}
+use Rattle.store_state.specs.Tables.{closed_from}
+use Rattle.ingest_steps.specs.Offering.{offer_in}
+use Rattle.ingest_steps.specs.SealingAll.{ChangesSlotsAlone, slots_of}
+use Rattle.store_core.specs.Core.{next_id, seals_from}
 use Rattle.base_model.specs.Bytes.{byte_at}
 use Rattle.base_model.proofs.Ranges.{byte-range}
 use Rattle.actor_parts.specs.declared.step.Answer.TheVariants as answers
 use Rattle.actor_parts.specs.StepValue as asked
-use Rattle.refusals.specs.declared.refusal.Refusal.TheVariants as refusals
 use Rattle.store_model.proofs.Freed.{slot_held}
 use Rattle.store_model.proofs.Once.{slot_once}
 use Rattle.store_core.specs.Frame.{HasReserveIn, ReserveStays}
 use Rattle.store_core.proofs.CoreRuns.{running_step, stopped_reads, was_running}
-use Rattle.store_core.proofs.Frames.{Leads, begins, keeps_counted, keeps_here, keeps_record, keeps_sealed, some_not_none, step_leads}
+use Rattle.store_core.proofs.FilledSlots.{IsOutOf, closed_with_all, many_with_all, room_with_all, some_not_none}
+use Rattle.store_core.proofs.Frames.{Leads, begins, keeps_counted, keeps_here, keeps_record, keeps_sealed, step_leads}
+use Rattle.store_core.proofs.ManySealed.{few_placed}
 
 -- ---- slots of lists
 
@@ -33,22 +42,6 @@ as_free (None ∷ cs) (None ∷ os) many each = omega (arith, as_free cs os (ome
 as_free (None ∷ cs) (Some h ∷ os) many each = absurd (some_not_none h (each 0 refl))
 as_free (Some g ∷ cs) (None ∷ os) many each = omega (arith, as_free cs os (omega (arith, many)) (λ slot is. each (suc slot) is))
 as_free (Some g ∷ cs) (Some h ∷ os) many each = as_free cs os (omega (arith, many)) (λ slot is. each (suc slot) is)
-
--- but perhaps one
-but_one : (place : ℕ) (held others : List (Option HeaderValue)) → length others ≡ length held
-    → ((slot : ℕ) → slice_get held slot ≡ Some None → slot ≢ place → slice_get others slot ≡ Some None) → free_slots held ≤ suc (free_slots others)
-but_one place [] others many each = omega arith
-but_one place (c ∷ cs) [] many each = absurd (omega (arith, many))
-but_one zero (None ∷ cs) (None ∷ os) many each = omega (arith, as_free cs os (omega (arith, many)) (λ slot is. each (suc slot) is (omega arith)))
-but_one zero (None ∷ cs) (Some h ∷ os) many each = omega (arith, as_free cs os (omega (arith, many)) (λ slot is. each (suc slot) is (omega arith)))
-but_one zero (Some g ∷ cs) (None ∷ os) many each = omega (arith, as_free cs os (omega (arith, many)) (λ slot is. each (suc slot) is (omega arith)))
-but_one zero (Some g ∷ cs) (Some h ∷ os) many each = omega (arith, as_free cs os (omega (arith, many)) (λ slot is. each (suc slot) is (omega arith)))
-but_one (suc place) (None ∷ cs) (None ∷ os) many each = omega
-    (arith, but_one place cs os (omega (arith, many)) (λ slot is differ. each (suc slot) is (λ same. differ (omega (arith, same)))))
-but_one (suc place) (None ∷ cs) (Some h ∷ os) many each = absurd (some_not_none h (each 0 refl (omega arith)))
-but_one (suc place) (Some g ∷ cs) (None ∷ os) many each = omega
-    (arith, but_one place cs os (omega (arith, many)) (λ slot is differ. each (suc slot) is (λ same. differ (omega (arith, same)))))
-but_one (suc place) (Some g ∷ cs) (Some h ∷ os) many each = but_one place cs os (omega (arith, many)) (λ slot is differ. each (suc slot) is (λ same. differ (omega (arith, same))))
 
 -- ---- closed slots of an image
 
@@ -99,17 +92,20 @@ has_all t given c roomy image size closed u right =
           (λ slot is. closed_in u image right slot (omega (arith, within t.held slot None is, many)) (closed slot is (λ none. none))),
     )
 
--- all but one are, and there was one to spare
-has_but_one : (place : ℕ) (t : Store) (given : List ℕ) (c : CoreState) → IsRoomy t given c → RESERVE < free_slots t.held → (image : List ℕ) → length image ≡ length given
-    → Closed (λ slot. slot ≡ place) t image
-    → HasReserveIn image
-has_but_one place t given c roomy spare image size closed u right =
+-- all but these are, which leave the slots of the reserve
+has_others : (ps : List Placed) (t : Store) (given : List ℕ) (c : CoreState) → IsRoomy t given c → RESERVE + length ps ≤ free_slots t.held → (image : List ℕ)
+    → length image ≡ length given
+    → ((slot : ℕ) → slice_get t.held slot ≡ Some None → IsOutOf (slots_of ps) slot → HoldsSlot image slot None) → HasReserveIn image
+has_others ps t given c roomy room image size closed u right =
     let many = many_of t given c roomy image size u right in
+    let all = many_with_all ps t in
     omega (
       arith,
-      spare,
-      but_one place t.held u.held many
-          (λ slot is differ. closed_in u image right slot (omega (arith, within t.held slot None is, many)) (closed slot is differ)),
+      room_with_all ps t room,
+      as_free (with_all ps t).held u.held (many ∙ sym all)
+          (λ slot is.
+          let out = closed_with_all ps t slot is in
+          closed_in u image right slot (omega (arith, within (with_all ps t).held slot None is, many, all)) (closed slot out.1 out.0)),
     )
 
 -- ---- a step
@@ -128,8 +124,12 @@ NoneFlushed [] = Unit {0}
 NoneFlushed (FlushContainer id kind segments ∷ rest) = ⊥
 NoneFlushed (change ∷ rest) = NoneFlushed rest
 
+seals_flush_none : (id : ℕ) (cs : List Contents) → NoneFlushed (seals_from id cs)
+seals_flush_none id [] = tt
+seals_flush_none id (c ∷ cs) = seals_flush_none (suc id) cs
+
 none_flushed : (step : StepValue) (answer : Result Answer Refusal) → NoneFlushed (changes_by step answer)
-none_flushed (asked.Seal filled) (Ok (answers.Sealed id)) = tt
+none_flushed (asked.Seal offered) (Ok (answers.Sealed id count)) = seals_flush_none (id + 1 - count) (take count offered)
 none_flushed (asked.Commit name root) (Ok answer) = tt
 none_flushed (asked.Delete name) (Ok answer) = tt
 none_flushed step answer = tt
@@ -146,9 +146,6 @@ enough_after (FreeContainer slot ∷ rest) s t none chain enough = enough_after 
 module _ (t : Store) (given : List ℕ) (old new : CoreState) (roomy : IsRoomy t given old) where
   abbrev on : IsOn t old
   on = roomy.on
-
-  abbrev place : ℕ
-  place = first_free t.held
 
   slots_are : old.tables.slots ≡ t.slots
   slots_are = on.represents.slots_are
@@ -197,18 +194,22 @@ module _ (t : Store) (given : List ℕ) (old new : CoreState) (roomy : IsRoomy t
           × (slice_get t.held slot ≡ Some c) → slice_get t.held slot ≡ Some None
       was_closed next slot is here = was_by next.after slot here.0 (next.framed.held slot) is here.1
 
-  -- a container that was to be stored may stand in the closed slot of least number, beside which there were two
-  sealed_room : (filled : _) (answer : Result Answer Refusal) → SealsOne filled answer old new → (slot : ℕ) × HasSlot old.tables slot → KnownWith new.disk.content HasReserveIn
-  sealed_room filled answer effect has =
-      let frame = subst (λ (n : ℕ). ChangesSlotAlone n place old.disk new.disk) slots_are (effect.moves.frame.store_has t on.represents on.valid on.has_free) in
+  -- containers that were to be stored may stand in closed slots, where there is room for them beside the reserve
+  sealed_room : (offered : List Contents) (answer : Result Answer Refusal) → SealsSome offered answer old new → KnownWith new.disk.content HasReserveIn
+  sealed_room offered answer effect =
+      let n : ℕ = sealed_of (length offered) (free_slots t.held) old.tables.held.last_id in
+      let ps : List Placed = offer_in old.tables offered t in
+      let taken : List ℕ = slots_of ps in
+      let frame = subst (λ (k : ℕ). ChangesSlotsAlone k taken old.disk new.disk) slots_are (effect.moves.frame.store_has t on.represents on.valid on.has_free) in
       let left = (frame.settled settled given roomy.told).0 in
-      let spare = ((has.1.slot_is old.disk.size old.known).store_has t on.represents on.valid on.has_free).spare in
-      let Stays : ℕ → Type 0 = λ slot. (slice_get t.held slot ≡ Some None) × ¬ (slot ≡ place) in (
+      let Stays : ℕ → Type 0 = λ slot. (slice_get t.held slot ≡ Some None) × IsOutOf taken slot in
+      let keeps = keeps_sealed t given half_cells ⊥ Stays given (keeps_here t given half_cells ⊥ Stays) taken left.0 (λ slot stays. stays.1) left.2 in (
         left.0,
         left.1,
-        has_but_one place t given old roomy spare left.0 left.2.size
-            (closed_by (λ slot. slot ≡ place) left.0
-            (keeps_sealed t given half_cells ⊥ Stays given (keeps_here t given half_cells ⊥ Stays) place left.0 (λ slot stays. stays.1) left.2)),
+        has_others ps t given old roomy
+            (omega (arith, roomy.enough, few_placed (closed_from 0 t.held) (next_id old) (take n offered), length-take n offered)) left.0 left.2.size
+            (λ slot is out. still_closed slot given left.0
+            (keeps.slots slot (subst (λ (k : ℕ). slot < k) on.valid.many (within t.held slot None is)) (is, out)) (roomy.closed slot is (λ none. none))),
       )
 
   abbrev journal : JournalValue
@@ -239,20 +240,12 @@ module _ (t : Store) (given : List ℕ) (old new : CoreState) (roomy : IsRoomy t
     runs_not : new.stop ≡ None → ⊥
     runs_not runs = let both = sym runs ∙ stopped in absurd cc
 
-    unsealed_room : (actor : ℕ) (buf : List ℕ) (filled : _) (refusal : Refusal) → Row (asked.Seal filled) actor (Err refusal) buf old new → SealsOne filled (Err refusal) old new
-        → StopsAfter (asked.Seal filled) (Err refusal) old.acknowledged new.stop
-        → KnownWith new.disk.content HasReserveIn
-    unsealed_room actor buf filled refusals.DiskWrite row effect stops = sealed_room filled (Err refusals.DiskWrite) effect row.0.1
-    unsealed_room actor buf filled (refusals.Damaged at why) row effect stops = sealed_room filled (Err (refusals.Damaged at why)) effect row.0.1
-    unsealed_room actor buf filled refusal row effect stops = absurd (runs_not stops)
-
     by_effect : (actor : ℕ) (buf : List ℕ) (step : StepValue) (answer : Result Answer Refusal) → IsNoGcStep step → Row step actor answer buf old new → Effect step answer old new
         → StopsAfter step answer old.acknowledged new.stop
         → KnownWith new.disk.content HasReserveIn
     by_effect actor buf asked.Begin answer other row effect stops = by_reads effect.disk.only
     by_effect actor buf (asked.Claim seg) answer other row effect stops = by_reads effect.disk.only
-    by_effect actor buf (asked.Seal filled) (Ok answer) other row effect stops = absurd (runs_not stops)
-    by_effect actor buf (asked.Seal filled) (Err refusal) other row effect stops = unsealed_room actor buf filled refusal row effect stops
+    by_effect actor buf (asked.Seal offered) answer other row effect stops = sealed_room offered answer effect
     by_effect actor buf (asked.Commit name root) answer other row effect stops = named_room name (Put root) answer effect
     by_effect actor buf asked.Abort answer other row effect stops = by_reads effect.disk.only
     by_effect actor buf (asked.OpenRead name) answer other row effect stops = by_reads effect.disk.only

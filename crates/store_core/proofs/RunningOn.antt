@@ -1,14 +1,16 @@
 -- A core that runs runs on, or is stopped.
-use Rattle.gc_steps.proofs.Sealed.{room_on, sealed}
 use Rattle.actor_parts.specs.declared.step.Answer.TheVariants as answers
-use Rattle.store_core.proofs.Prelude.{◌≡◌, ℕ, List, [], ◌∷◌, length, Option, Some, None, Result, Ok, Err, refl, sym, ◌∙◌, ap, subst, arith, ◌<◌, ◌≤◌, IsLater, ACTORS, Part, Answer, StepValue, apart, Refusal, KindSegment, Tables, Runs, IsFirstFree, Stop, Effect, KeepsTables, KeepsUnlessBroken, StopsAfter, Steps, StepsOr, CoreStep, CommitRow, DeleteRow, NamesOne, Rests, Row, SealRow, SealsOne, next_id, CoreState, Event, IsUp, UnlessStopped, IsRunning, IsUnderWayIn, Collection, Collects, GcRow, IsKeptKey, MarksIn, StartRow, at_moment, free_slots, first_free, Delete, Put, Filter, Mark, Select, SweepStage, CopyNext, Flush, Release, End, free_in, RESERVE, HeaderValue, header_of, Root, Store, SealContainer, SlotTable, Stage, TablesAfter}
-use Rattle.std.proofs.Common.{slice_get}
+use Rattle.store_core.proofs.Prelude.{◌≡◌, ℕ, List, [], ◌∷◌, length, Option, Some, None, Result, Ok, Err, refl, sym, ◌∙◌, ap, subst, arith, ◌≤◌, IsLater, ACTORS, Part, Answer, StepValue, apart, Refusal, KindSegment, Tables, Runs, Stop, Effect, KeepsTables, KeepsUnlessBroken, StopsAfter, Steps, StepsOr, CoreStep, CommitRow, DeleteRow, NamesOne, Rests, Row, SealRow, SealsSome, next_id, CoreState, Event, IsUp, UnlessStopped, IsRunning, IsUnderWay, IsUnderWayIn, Collection, Collects, GcRow, IsKeptKey, MarksIn, StartRow, at_moment, Delete, Put, Filter, Mark, Select, SweepStage, CopyNext, Flush, Release, End, Root, Store, SlotTable, Stage, TablesAfter}
+use Rattle.std.proofs.lemmas.List.{length-take-le}
+use Rattle.std.specs.Prelude.{◌-◌, ◌+◌, take}
 use Rattle.actor_parts.specs.StepValue as asked
 use Rattle.refusals.specs.declared.refusal.Refusal.TheVariants as refusals
 use Rattle.container_meta.specs.Segments.{Contents}
-use Rattle.store_core.specs.Core.{Makes, MakesAlone}
+use Rattle.store_core.specs.Core.{AreSealed, Makes, MakesAlone, changed_by, seals_from}
 use Rattle.store_core.specs.Runs.{RunsOn}
-use Rattle.store_core.proofs.Rooms.{free_held}
+use Rattle.store_core.proofs.ManySealed.{room_left}
+use Rattle.store_core.proofs.Rooms.{has_room}
+use Rattle.store_core.proofs.UnderWayOn.{StaysUnder, all_under}
 use Rattle.store_core.proofs.Stepping.{ChangesOne, row_one}
 use Rattle.gc_sweep.specs.declared.sweep.Next.{Next}
 use Rattle.gc_steps.proofs.UnderWay.{live_on}
@@ -52,8 +54,8 @@ module _ (old new : CoreState) where
         → Runs new.disk.size None new.tables
     effect_runs asked.Begin answer row effect = same_runs effect.disk.only.later effect.tables.tables_are
     effect_runs (asked.Claim seg) answer row effect = same_runs effect.disk.only.later effect.tables.tables_are
-    effect_runs (asked.Seal filled) (Ok answer) row effect = effect.made.runs
-    effect_runs (asked.Seal filled) (Err refusal) row effect = same_runs effect.disk.later (tables_kept refusal effect.kept)
+    effect_runs (asked.Seal offered) (Ok answer) row effect = effect.made.runs
+    effect_runs (asked.Seal offered) (Err refusal) row effect = same_runs effect.disk.later (tables_kept refusal effect.kept)
     effect_runs (asked.Commit name root) (Ok answer) row effect = effect.made.runs
     effect_runs (asked.Commit name root) (Err refusal) row effect = same_runs effect.disk.later effect.kept.tables_are
     effect_runs (asked.Delete name) (Ok answer) row effect = effect.made.runs
@@ -68,11 +70,11 @@ module _ (old new : CoreState) where
     effect_runs asked.Stat answer row effect = same_runs effect.disk.only.later effect.tables.tables_are
 
 module _ (old new : CoreState) (stays : new.stop ≡ None) where
-  pub seal_kept : (filled : Contents) (refusal : Refusal) (count : ℕ) → StopsAfter (asked.Seal filled) (Err refusal) count new.stop → KeepsUnlessBroken refusal old new
+  pub seal_kept : (offered : List Contents) (refusal : Refusal) (count : ℕ) → StopsAfter (asked.Seal offered) (Err refusal) count new.stop → KeepsUnlessBroken refusal old new
       → KeepsTables old new
-  seal_kept filled refusals.DiskWrite count stops kept = absurd (let both = sym stays ∙ stops in cc)
-  seal_kept filled (refusals.Damaged at_byte why) count stops kept = absurd (let both = sym stays ∙ stops in cc)
-  seal_kept filled refusal count stops kept = kept
+  seal_kept offered refusals.DiskWrite count stops kept = absurd (let both = sym stays ∙ stops in cc)
+  seal_kept offered (refusals.Damaged at_byte why) count stops kept = absurd (let both = sym stays ∙ stops in cc)
+  seal_kept offered refusal count stops kept = kept
 
 -- ---- the collection that runs
 
@@ -81,45 +83,38 @@ marked_on : (P : List ℕ → Type 0) (t : SlotTable) (was now : Option Collecti
 marked_on P t None now marks under_way = subst (IsUnderWayIn t) (sym marks) under_way
 marked_on P t (Some c) now marks under_way = subst (IsUnderWayIn t) (sym marks.1.0) (live_on t c marks.0 under_way)
 
--- the closed slot of least number is one
-pub first_within : (held : List (Option HeaderValue)) → 1 ≤ free_slots held → first_free held < length held
-first_within [] some = absurd (omega (arith, some))
-first_within (None ∷ cs) some = omega arith
-first_within (Some h ∷ cs) some = let rest = first_within cs some in omega (arith, rest)
-
-pub first_closed : (held : List (Option HeaderValue)) → 1 ≤ free_slots held → slice_get held (first_free held) ≡ Some None
-first_closed [] some = absurd (omega (arith, some))
-first_closed (None ∷ cs) some = refl
-first_closed (Some h ∷ cs) some = first_closed cs some
-
--- a container that is sealed, of any store that the tables alone are of
-module _ (filled : Contents) (id : ℕ) (old new : CoreState) (runs : Runs old.disk.size None old.tables)
-    (made : Makes (SealContainer (next_id old) filled.kind filled.segments) old new) where
+-- containers that are sealed, of any store that the tables alone are of
+module _ (cs : List Contents) (old new : CoreState) (runs : Runs old.disk.size None old.tables) (made : Makes (seals_from (next_id old) cs) old new)
+    (some : 1 ≤ length cs) (last : new.tables.held.last_id ≡ old.tables.held.last_id + length cs) where
   abbrev s : Store
   s = runs.store
 
-  abbrev h : HeaderValue
-  h = header_of (next_id old) filled.kind filled.segments
-
-  now : MakesAlone (SealContainer (next_id old) filled.kind filled.segments) s new.disk.size new.tables
+  now : MakesAlone (seals_from (next_id old) cs) s new.disk.size new.tables
   now = made.alone.store_has s runs.represents runs.valid runs.has_free
 
-  first : IsFirstFree (first_free s.held) s.held
-  first = record {
-    first = refl;
-    within = first_within s.held runs.has_free;
-    closed = first_closed s.held runs.has_free;
-  }
+  pub sealed_under : (c : Collection) → IsUnderWay old.tables.held c → StaysUnder c old.tables.held new.tables.held
+  sealed_under c under = all_under c cs s (changed_by (seals_from (next_id old) cs) s) old.disk.size (next_id old) old.tables.held new.tables.held some now.can runs.valid
+      runs.represents.slots_hold now.represents.slots_hold refl last under
 
-  spare : RESERVE < free_in old.tables.held
-  spare = omega (arith, now.can.slot, free_held s.held old.tables.held runs.represents.slots_hold runs.valid.headers)
+  sealed_on : (collection : Option Collection) → IsUnderWayIn old.tables.held collection → IsUnderWayIn new.tables.held collection
+  sealed_on None under_way =
+      has_room (changed_by (seals_from (next_id old) cs) s).held new.tables.held now.represents.slots_hold now.valid.headers
+      (room_left (next_id old) cs s (changed_by (seals_from (next_id old) cs) s) some now.can)
+  sealed_on (Some c) under_way = (sealed_under c under_way).under
 
-  sealed_on : (collection : Option Collection) → id ≡ next_id old → new.tables.held.last_id ≡ id → IsUnderWayIn old.tables.held collection → IsUnderWayIn new.tables.held collection
-  sealed_on None id_is last under_way =
-      room_on s.held old.tables.held new.tables.held (first_free s.held) h first runs.valid.headers now.can.right runs.represents.slots_hold now.represents.slots_hold spare
-  sealed_on (Some c) id_is last under_way =
-      sealed s.held old.tables.held new.tables.held c (first_free s.held) h first runs.valid.headers now.can.right runs.represents.slots_hold now.represents.slots_hold
-      (omega (arith, id_is, last)) (omega arith) spare under_way
+-- how many were sealed, and up to which id
+module _ (offered : List Contents) (id count actor : ℕ) (old new : CoreState) (row : AreSealed offered id count actor old new) where
+  pub sealed_count : length (take count offered) ≡ count
+  sealed_count = length-take-le count offered row.few
+
+  pub sealed_some : 1 ≤ length (take count offered)
+  sealed_some = omega (arith, row.some, sealed_count)
+
+  pub sealed_last : new.tables.held.last_id ≡ old.tables.held.last_id + length (take count offered)
+  sealed_last = row.last_is ∙ row.id_is ∙ ap (λ (n : ℕ). old.tables.held.last_id + n) (sym sealed_count)
+
+  pub sealed_first : id + 1 - count ≡ next_id old
+  sealed_first = omega (arith, row.id_is)
 
 module _ (old new : CoreState) where
   -- nothing of it changes
@@ -136,16 +131,17 @@ module _ (old new : CoreState) where
       subst (λ (t : Tables). IsUnderWayIn t.held new.collection) (sym effect.tables.tables_are)
       (marked_on (IsKeptKey (asked.Claim seg) answer) old.tables.held old.collection new.collection collects under_way)
 
-  sealed_answer : (filled : Contents) (actor : ℕ) (answer : Result Answer Refusal) → Runs old.disk.size None old.tables → SealRow filled actor answer old new
-      → SealsOne filled answer old new → Collects (asked.Seal filled) answer old new
+  sealed_answer : (offered : List Contents) (actor : ℕ) (answer : Result Answer Refusal) → Runs old.disk.size None old.tables → SealRow offered actor answer old new
+      → SealsSome offered answer old new → Collects (asked.Seal offered) answer old new
       → IsUnderWayIn old.tables.held old.collection → IsUnderWayIn new.tables.held new.collection
-  sealed_answer filled actor (Ok (answers.Sealed id)) runs row effect collects under_way =
-      marked_on (IsKeptKey (asked.Seal filled) (Ok (answers.Sealed id))) new.tables.held old.collection new.collection collects
-      (sealed_on filled id old new runs effect.made old.collection row.id_is row.last_is under_way)
-  sealed_answer filled actor (Err refusal) runs row effect collects under_way =
+  sealed_answer offered actor (Ok (answers.Sealed id count)) runs row effect collects under_way =
+      marked_on (IsKeptKey (asked.Seal offered) (Ok (answers.Sealed id count))) new.tables.held old.collection new.collection collects
+      (sealed_on (take count offered) old new runs effect.made (sealed_some offered id count actor old new row) (sealed_last offered id count actor old new row) old.collection
+      under_way)
+  sealed_answer offered actor (Err refusal) runs row effect collects under_way =
       subst (λ (t : Tables). IsUnderWayIn t.held new.collection) (sym (tables_kept old new refusal effect.kept))
-      (marked_on (IsKeptKey (asked.Seal filled) (Err refusal)) old.tables.held old.collection new.collection collects under_way)
-  sealed_answer filled actor answer runs row effect collects under_way = absurd row
+      (marked_on (IsKeptKey (asked.Seal offered) (Err refusal)) old.tables.held old.collection new.collection collects under_way)
+  sealed_answer offered actor answer runs row effect collects under_way = absurd row
 
   begun_on : (percent : ℕ) (answer : Result Answer Refusal) → StartRow percent answer old new → KeepsTables old new → IsUnderWayIn old.tables.held old.collection
       → IsUnderWayIn new.tables.held new.collection
@@ -172,7 +168,7 @@ module _ (old new : CoreState) where
       → Runs old.disk.size None old.tables → IsUnderWayIn old.tables.held old.collection → IsUnderWayIn new.tables.held new.collection
   under_way_on asked.Begin actor answer buf row effect collects runs = kept_on effect.tables collects
   under_way_on (asked.Claim seg) actor answer buf row effect collects runs = claimed_on seg answer effect collects
-  under_way_on (asked.Seal filled) actor answer buf row effect collects runs = sealed_answer filled actor answer runs row effect collects
+  under_way_on (asked.Seal offered) actor answer buf row effect collects runs = sealed_answer offered actor answer runs row effect collects
   under_way_on (asked.Commit name root) actor answer buf row effect collects runs = unchanged_on (commit_held name root actor answer row effect) collects
   under_way_on asked.Abort actor answer buf row effect collects runs = kept_on effect.tables collects
   under_way_on (asked.OpenRead name) actor answer buf row effect collects runs = kept_on effect.tables collects

@@ -1,8 +1,12 @@
 -- Steps keep what holds of the collection that runs.
 use Rattle.std.specs.FinMap as finite
 use Rattle.gc_steps.proofs.SealedPins.{sealed_safe}
-use Rattle.store_core.proofs.Prelude.{some_same, root_key, ClaimRow, CommitRow, Rests, SealRow, SealsOne, next_id, AllByRecursion, Answer, ByteSet, IsIn, Collection, Collects, IsKeptKey, MarksIn, StartRow, HasKey, CoreInvariant, CoreState, IsUnderWayIn, Delete, Put, Filter, Mark, Select, [], Err, List, None, Ok, Option, Result, Some, ap, arith, map, refl, subst, true, ℕ, ◌<◌, ◌↔◌, ◌∙◌, ◌∷◌, ◌≡◌, ◌≢◌, ◌⊎◌, suc, inl, inr, sym, length, Idle, Writing, IsAt, IsSafeIn, IsLiveAt, LiveKeys, IsPartKey, Marks, IsSafe, IsSafeAt, IsStoreOf, KeepsBoth, KeepsCopies, with_change, with_sealed, Kind, KindSegment, Segment, segment_key, Part, PinMap, Place, PlaceMap, Refusal, Represents, Runs, Root, Stage, Store, names_of, Stored, Tables, one_more, contains_first, contains_none, pin_of, with_pins}
+use Rattle.store_core.proofs.Prelude.{some_same, root_key, ClaimRow, CommitRow, Rests, SealRow, next_id, ChangesTo, Answer, ByteSet, IsIn, Collection, Collects, IsKeptKey, MarksIn, StartRow, HasKey, CoreInvariant, CoreState, IsUnderWayIn, Delete, Put, Filter, Mark, Select, Err, List, None, Ok, Option, Result, Some, ap, arith, refl, subst, true, ℕ, ◌<◌, ◌∙◌, ◌≡◌, ◌⊎◌, suc, inl, inr, sym, length, Idle, Writing, IsAt, IsSafeIn, IsLiveAt, LiveKeys, Marks, IsSafe, IsSafeAt, IsStoreOf, KeepsBoth, KeepsCopies, with_change, KindSegment, segment_key, Part, PinMap, Place, PlaceMap, Refusal, Represents, Runs, Root, Stage, Store, names_of, Stored, Tables, pin_of}
+use Rattle.ingest_steps.specs.Offering.{with_pins_of}
 use Rattle.ingest_steps.specs.Writers.{IsStored}
+use Rattle.store_core.specs.Collecting.{keys_in}
+use Rattle.store_core.specs.Core.{Makes, seals_from}
+use Rattle.store_core.proofs.ManySealed.{comes_all, none_sealed, pins_all}
 use Rattle.refusals.specs.declared.refusal.Refusal.TheVariants as refusals
 use Rattle.actor_parts.specs.declared.step.Answer.TheVariants as answers
 use Rattle.actor_parts.specs.StepValue as asked
@@ -11,13 +15,11 @@ use Rattle.gc_steps.specs.declared.collection.Stage.TheVariants.{Sweep}
 use Rattle.container_meta.specs.Segments.{Contents}
 use Rattle.actor_parts.specs.PinMap.{has_pin}
 use Rattle.gc_steps.proofs.ClaimedPin.{claimed_key}
-use Rattle.gc_steps.proofs.Marked.{contains_head, contains_next}
 use Rattle.gc_steps.proofs.FewerRoots.{fewer_roots}
 use Rattle.gc_steps.proofs.OtherSteps.{deleted, kept, committed}
 use Rattle.store_core.proofs.RootsKept.{BringsNone, none_same, within_parts}
 use Rattle.gc_steps.proofs.Unseen.{marked_unseen}
 use Rattle.actor_parts.specs.Parts.{part_of, with_part}
-use Rattle.actor_parts.specs.Segments.{pin_by}
 use Rattle.gc_steps.proofs.Safe.{start_safe}
 
 -- the tables of a core that is at a store, alone
@@ -73,39 +75,6 @@ unseen index store parts image c live marks = marked_unseen index store image pa
     was : (key : List ℕ) (place : Place) → IsLiveAt c.live key place ⊎ ⊥ → IsLiveAt c.live key place
     was key place (inl is) = is
     was key place (inr none) = absurd none
-
--- the pins after a container is sealed are those before, and its keys
-pub pins_more : (kind : Kind) (segments : List Segment) (pins : PinMap) (key : List ℕ)
-    → IsPartKey (Writing (with_pins kind segments pins)) key ↔ (IsPartKey (Writing pins) key ⊎ Contains (map (segment_key kind) segments) key)
-pins_more kind [] pins key = (λ is. inl is, λ is. elim is [ inl was ↦ was | inr none ↦ absurd (contains_none key none) ])
-pins_more kind (x ∷ xs) pins key =
-    let rest = pins_more kind xs (finite.insert pins (segment_key kind x) (pin_by kind x)) key in
-    let one = one_more pins (segment_key kind x) (pin_by kind x) key in (
-      λ is. elim (rest.0 is) [
-        | inl was ↦ elim (one.0 was) [
-          | inl before ↦ inl before
-          | inr same ↦ inr
-              (subst (λ (k : List ℕ). Contains (segment_key kind x ∷ map (segment_key kind) xs) k) (sym same) (contains_head (segment_key kind x) (map (segment_key kind) xs)))
-        ]
-        | inr later ↦ inr (contains_next (segment_key kind x) key (map (segment_key kind) xs) later)
-      ],
-      λ is. elim is [
-        | inl was ↦ rest.1 (inl (one.1 (inl was)))
-        | inr has ↦ elim (contains_first (segment_key kind x) key (map (segment_key kind) xs) has) [
-          | inl same ↦ rest.1 (inl (one.1 (inr same)))
-          | inr later ↦ rest.1 (inr later)
-        ]
-      ],
-    )
-
--- a key that no segment has is none that is added
-pub none_added : (kind : Kind) (key : List ℕ) (segments : List Segment) → (Contains (map (segment_key kind) segments) key → ⊥)
-    → AllByRecursion (λ s. segment_key kind s ≢ key) segments
-none_added kind key [] none = tt
-none_added kind key (x ∷ xs) none = (
-  λ same. none (subst (λ (k : List ℕ). Contains (segment_key kind x ∷ map (segment_key kind) xs) k) same (contains_head (segment_key kind x) (map (segment_key kind) xs))),
-  none_added kind key xs (λ later. none (contains_next (segment_key kind x) key (map (segment_key kind) xs) later)),
-)
 
 -- a root that is stored is that of the empty file, or is pinned
 pub stored_pin : (pins : PinMap) (root : Root) → IsStored pins root → (root.length ≡ 0)
@@ -179,35 +148,33 @@ module _ (among : ByteSet) (s : Store) (stored : Stored) (old new : CoreState) (
   -- ---- a seal
 
   -- one that is refused changes the image alone
-  pub unsealed_safe : (filled : Contents) (refusal : Refusal) → SealRow filled actor (Err refusal) old new → Collects (asked.Seal filled) (Err refusal) old new → (after : List ℕ)
-      → KeepsCopies (HasKey at.index) s image s after
+  pub unsealed_safe : (offered : List Contents) (refusal : Refusal) → SealRow offered actor (Err refusal) old new → Collects (asked.Seal offered) (Err refusal) old new
+      → (after : List ℕ) → KeepsCopies (HasKey at.index) s image s after
       → IsSafeIn at.index s new.parts after new.collection
-  unsealed_safe filled refusal row collects after keeps =
-      marked_safe at.index at.index s s old.parts new.parts image after (IsKeptKey (asked.Seal filled) (Err refusal)) old.collection new.collection
+  unsealed_safe offered refusal row collects after keeps =
+      marked_safe at.index at.index s s old.parts new.parts image after (IsKeptKey (asked.Seal offered) (Err refusal)) old.collection new.collection
       (λ c live ran marks. both_on at.index at.index at.index s s s old.parts old.parts new.parts image after after c c (record c { live = live })
       (kept at.index s image after old.parts c keeps)
       (subst (λ (p : List Part). KeepsBoth at.index at.index s s old.parts p after after c (record c { live = live })) (sym row.1)
       (unseen at.index s old.parts after c live marks))) collects (at.safe image here)
 
-  pub sealed_safe_in : (filled : Contents) (id : ℕ) → SealRow filled actor (Ok (answers.Sealed id)) old new → SealsOne filled (Ok (answers.Sealed id)) old new
-      → Collects (asked.Seal filled) (Ok (answers.Sealed id)) old new
-      → (then : PlaceMap) → new.known ≡ Some then → (after : List ℕ) → CoreInvariant then (with_sealed (next_id old) filled.kind filled.segments s) stored.files new.parts after
-      → IsStoreOf (with_sealed (next_id old) filled.kind filled.segments s) stored.files after
-      → KeepsCopies (HasKey at.index) s image (with_sealed (next_id old) filled.kind filled.segments s) after
-      → IsSafeIn then (with_sealed (next_id old) filled.kind filled.segments s) new.parts after new.collection
-  sealed_safe_in filled id row effect collects then then_is after core holds keeps =
-      let may = row.may in
-      let t : Store = with_sealed (next_id old) filled.kind filled.segments s in
-      let more : PinMap = with_pins filled.kind filled.segments may.pins in
-      let within = there (Writing may.pins) may.writing (λ is. cc) in
-      let here_core = subst (λ (p : List Part). CoreInvariant then t stored.files p after) row.parts_are core in
-      marked_safe at.index then s t old.parts new.parts image after (IsKeptKey (asked.Seal filled) (Ok (answers.Sealed id))) old.collection new.collection
-      (λ c live ran marks. subst (λ (p : List Part). KeepsBoth at.index then s t old.parts p image after c (record c { live = live })) (sym row.parts_are)
-      (sealed_safe s (next_id old) filled (effect.made.can.store_has s at.represents at.valid (at.invariant image here).has_free) at.index then
-      (effect.made.keeps_keys at.index at.index_known then then_is)
-      (λ key none. effect.made.keeps_others at.index at.index_known then then_is key (none_added filled.kind key filled.segments none)) core.index_is_newest
-      image after stored.files old.parts c live actor may.pins more (subst (IsUnderWayIn old.tables.held) ran at.under_way).began
-      (omega (arith, within, at.many)) within may.writing marks (pins_more filled.kind filled.segments may.pins) keeps here_core holds)) collects (at.safe image here)
+  -- what was sealed is there, and pinned
+  module _ (cs : List Contents) (pins : PinMap) (writing : part_of old.parts actor ≡ Writing pins)
+      (parts_are : new.parts ≡ with_part old.parts actor (Writing (with_pins_of cs pins))) (made : Makes (seals_from (next_id old) cs) old new)
+      (marks : MarksIn (Contains (keys_in cs)) old.collection new.collection) (t : Store) (chain : ChangesTo (seals_from (next_id old) cs) s t) where
+    pub sealed_safe_in : (then : PlaceMap) → new.known ≡ Some then → (after : List ℕ) → CoreInvariant then t stored.files new.parts after → IsStoreOf t stored.files after
+        → KeepsCopies (HasKey at.index) s image t after → IsSafeIn then t new.parts after new.collection
+    sealed_safe_in then then_is after core holds keeps =
+        let P : List ℕ → Type 0 = Contains (keys_in cs) in
+        let within = there (Writing pins) writing (λ is. cc) in
+        let here_core = subst (λ (p : List Part). CoreInvariant then t stored.files p after) parts_are core in
+        marked_safe at.index then s t old.parts new.parts image after P old.collection new.collection
+        (λ c live ran marks. subst (λ (p : List Part). KeepsBoth at.index then s t old.parts p image after c (record c { live = live })) (sym parts_are)
+        (sealed_safe P (next_id old) s t (comes_all (next_id old) cs s t chain) at.index then
+        (made.keeps_keys at.index at.index_known then then_is)
+        (λ key none. made.keeps_others at.index at.index_known then then_is key (none_sealed (next_id old) cs key none)) core.index_is_newest
+        image after stored.files old.parts c live actor pins (with_pins_of cs pins) (subst (IsUnderWayIn old.tables.held) ran at.under_way).began
+        (omega (arith, within, at.many)) within writing marks (pins_all cs pins) keeps here_core holds)) marks (at.safe image here)
 
   -- ---- a name
 

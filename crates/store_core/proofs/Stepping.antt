@@ -39,10 +39,10 @@ module _ (actor : ℕ) (buf : List ℕ) (old new : CoreState) where
   claim_one seg (Err refusal) row = same_one actor old.parts new.parts row.1
   claim_one seg answer row = absurd row
 
-  seal_one : (filled : Contents) (answer : Result Answer Refusal) → SealRow filled actor answer old new → ChangesOne actor old.parts new.parts
-  seal_one filled (Ok (answers.Sealed id)) row = one actor old.parts new.parts _ row.parts_are
-  seal_one filled (Err refusal) row = same_one actor old.parts new.parts row.1
-  seal_one filled answer row = absurd row
+  seal_one : (offered : List Contents) (answer : Result Answer Refusal) → SealRow offered actor answer old new → ChangesOne actor old.parts new.parts
+  seal_one offered (Ok (answers.Sealed id count)) row = one actor old.parts new.parts _ row.parts_are
+  seal_one offered (Err refusal) row = same_one actor old.parts new.parts row.1
+  seal_one offered answer row = absurd row
 
   commit_one : (name : List ℕ) (root : Root) (answer : Result Answer Refusal) → CommitRow name root actor answer old new → ChangesOne actor old.parts new.parts
   commit_one name root (Ok (answers.Committed sequence)) row = one actor old.parts new.parts _ row.2
@@ -104,7 +104,7 @@ module _ (actor : ℕ) (buf : List ℕ) (old new : CoreState) where
   pub row_one : (step : StepValue) (answer : Result Answer Refusal) → Row step actor answer buf old new → ChangesOne actor old.parts new.parts
   row_one asked.Begin answer row = begin_one answer row
   row_one (asked.Claim seg) answer row = claim_one seg answer row
-  row_one (asked.Seal filled) answer row = seal_one filled answer row
+  row_one (asked.Seal offered) answer row = seal_one offered answer row
   row_one (asked.Commit name root) answer row = commit_one name root answer row
   row_one asked.Abort answer row = abort_one answer row
   row_one (asked.OpenRead name) answer row = open_one name answer row
@@ -123,7 +123,7 @@ module _ (old new : CoreState) where
   pub effect_later : (step : StepValue) (answer : Result Answer Refusal) → Effect step answer old new → IsLater old.disk new.disk
   effect_later asked.Begin answer effect = effect.disk.only.later
   effect_later (asked.Claim seg) answer effect = effect.disk.only.later
-  effect_later (asked.Seal filled) answer effect = effect.disk.later
+  effect_later (asked.Seal offered) answer effect = effect.disk.later
   effect_later (asked.Commit name root) answer effect = effect.disk.later
   effect_later asked.Abort answer effect = effect.disk.only.later
   effect_later (asked.OpenRead name) answer effect = effect.disk.only.later

@@ -1,8 +1,8 @@
 -- What steps do to the collection that runs, and what its own steps do to the core (docs/MODEL.md, 'The core').
-use Rattle.std.specs.Prelude.{◌≡◌, ◌↔◌, ◌+◌, ◌-◌, ◌*◌, ◌^◌, ◌≤◌, ℕ, List, [], length, min, map, Contains, Option, Some, None, Result, Ok, Err}
+use Rattle.std.specs.Prelude.{◌≡◌, ◌↔◌, ◌+◌, ◌-◌, ◌*◌, ◌^◌, ◌≤◌, ℕ, List, [], ◌∷◌, ◌++◌, length, min, take, Contains, Option, Some, None, Result, Ok, Err}
 use Rattle.container_meta.specs.declared.place.Place.{Place}
 use Rattle.container_meta.specs.Places.{PlaceMap}
-use Rattle.container_meta.specs.Segments.{segment_key}
+use Rattle.container_meta.specs.Segments.{Contents, keys_of, segment_key}
 use Rattle.dd_disk.specs.Ending.{CountsFault, Reads, ending}
 use Rattle.dd_disk.specs.View.{DiskView, IsLater}
 use Rattle.disk_format.specs.declared.numbers.TheConstants.{MOST_LEVEL}
@@ -32,10 +32,15 @@ use Rattle.store_core.specs.State.{CoreState, IsUnderWayIn}
 
 -- ---- what other steps do to it
 
--- the key of a segment that a step keeps: one that was claimed and is held, and each of a container that was sealed
+-- the keys of the segments of containers, one after the other
+abbrev pub keys_in : List Contents → List (List ℕ)
+keys_in [] = []
+keys_in (c ∷ cs) = keys_of c ++ keys_in cs
+
+-- the key of a segment that a step keeps: one that was claimed and is held, and each of the containers that were sealed
 abbrev pub IsKeptKey : StepValue → Result Answer Refusal → List ℕ → Type 0
 IsKeptKey (asked.Claim seg) (Ok answers.Held) key = key ≡ segment_key seg.kind seg.segment
-IsKeptKey (asked.Seal filled) (Ok (answers.Sealed id)) key = Contains (map (segment_key filled.kind) filled.segments) key
+IsKeptKey (asked.Seal offered) (Ok (answers.Sealed id count)) key = Contains (keys_in (take count offered)) key
 IsKeptKey step answer key = ⊥
 
 -- a segment that was claimed is held
@@ -57,7 +62,7 @@ Restores (Some c) now fresh =
 -- What a step does to it. The rows of its own steps say what these do.
 abbrev pub Collects : StepValue → Result Answer Refusal → CoreState → CoreState → Type 0
 Collects (asked.Claim seg) answer old new = MarksIn (IsKeptKey (asked.Claim seg) answer) old.collection new.collection
-Collects (asked.Seal filled) answer old new = MarksIn (IsKeptKey (asked.Seal filled) answer) old.collection new.collection
+Collects (asked.Seal offered) answer old new = MarksIn (IsKeptKey (asked.Seal offered) answer) old.collection new.collection
 Collects (asked.GcStart percent) answer old new = Unit {0}
 Collects asked.GcStep answer old new = Unit {0}
 Collects step answer old new = new.collection ≡ old.collection

@@ -1,5 +1,5 @@
 -- What each step makes of the core of a store, what it answers, and why it is refused (docs/MODEL.md, 'The core').
-use Rattle.std.specs.Prelude.{◌≡◌, ◌≢◌, ℕ, suc, ◌+◌, List, Option, Some, None, Result, Ok, Err, IfErr, OnOk, OnErr}
+use Rattle.std.specs.Prelude.{◌≡◌, ◌≢◌, ℕ, suc, ◌+◌, ◌≤◌, List, [], ◌∷◌, length, take, Option, Some, None, Result, Ok, Err, IfErr, OnOk, OnErr}
 use Rattle.std.specs.FinMap as finite
 use Rattle.std.specs.List.{AllByRecursion}
 use Rattle.base_model.specs.Known.{Known, KnownWith}
@@ -19,6 +19,7 @@ use Rattle.actor_parts.specs.declared.part.Part.TheVariants.{Idle, Writing}
 use Rattle.actor_parts.specs.declared.step.Answer.{Answer}
 use Rattle.actor_parts.specs.declared.step.Answer.TheVariants as answers
 use Rattle.actor_parts.specs.Kinds.{kind_of}
+use Rattle.actor_parts.specs.Offers.{IsOffer}
 use Rattle.actor_parts.specs.Parts.{part_of, with_part}
 use Rattle.actor_parts.specs.StepValue as asked
 use Rattle.actor_parts.specs.StepValue.{StepValue}
@@ -42,9 +43,10 @@ use Rattle.ingest_steps.specs.Naming.{ChangesName, ChangesJournalAlone, IsDelete
 use Rattle.ingest_steps.specs.declared.claiming.Claimed.{Claimed}
 use Rattle.ingest_steps.specs.declared.claiming.Claimed.TheVariants.{Held, Absent}
 use Rattle.ingest_steps.specs.Claiming.{IsClaimed, IsClaimRefusal, DiffersFrom, KeepsPart}
-use Rattle.ingest_steps.specs.Pinning.{MayKeep, with_pins}
-use Rattle.ingest_steps.specs.Sealing.{IsCompared, SealsCompared, WasCompared}
-use Rattle.ingest_steps.specs.SealStep.{IsStepRefusal, KeepsSealed, store_moment}
+use Rattle.ingest_steps.specs.Offering.{AreCompared, IsOfferRefusal, IsRoomFor, MayKeepAll, WereCompared, with_pins_of}
+use Rattle.ingest_steps.specs.OfferStep.{KeepsOffered}
+use Rattle.ingest_steps.specs.SealingAll.{SealsOffer}
+use Rattle.ingest_steps.specs.SealStep.{store_moment}
 use Rattle.ingest_steps.specs.Writers.{MayCommit, IsWrongPart, IsCommitRefusal}
 use Rattle.read_steps.specs.Counting.{counts_of}
 use Rattle.read_steps.specs.Readers as readers
@@ -83,26 +85,31 @@ IsUnclaimed seg actor refusal old new =
     IsClaimRefusal (part_of old.parts actor) seg (IsDamage old new)
     (DiffersFrom old.disk.size old.known seg (Shows old.disk new.disk)) refusal
 
--- ---- a container that is stored
+-- ---- containers that are stored
 
 abbrev pub next_id : CoreState → ℕ
 next_id c = c.tables.held.last_id + 1
 
--- the container was compared with what is held, and stands, and its segments are pinned from now on
-pub record IsSealed (filled : Contents) (id actor : ℕ) (old new : CoreState) : Type 0 where
-  pub may : MayKeep (part_of old.parts actor) filled
-  pub compared : WasCompared old.disk.size old.known (Shows old.disk new.disk) filled
-  pub id_is : id ≡ next_id old
-  -- it is the greatest that was given out
+-- Of those that were offered the first, as many as there is room for, were compared with what is held, and stand, under the next ids;
+-- their segments are pinned from now on.
+pub record AreSealed (offered : List Contents) (id count actor : ℕ) (old new : CoreState) : Type 0 where
+  pub offer : IsOffer offered
+  pub may : MayKeepAll (part_of old.parts actor) offered
+  pub room : IsRoomFor old.tables (length offered) count
+  pub some : 1 ≤ count
+  pub few : count ≤ length offered
+  pub compared : WereCompared old.disk.size old.known (Shows old.disk new.disk) (take count offered)
+  -- the greatest id that was given out
+  pub id_is : id ≡ old.tables.held.last_id + count
   pub last_is : new.tables.held.last_id ≡ id
-  pub parts_are : Gets (Writing (with_pins filled.kind filled.segments may.pins)) actor old new
-  pub kept : KeepsSealed (store_moment old.disk old.known old.tables old.parts)
-      (store_moment new.disk new.known new.tables new.parts) actor filled id
+  pub parts_are : Gets (Writing (with_pins_of (take count offered) may.pins)) actor old new
+  pub kept : KeepsOffered (store_moment old.disk old.known old.tables old.parts)
+      (store_moment new.disk new.known new.tables new.parts) actor offered
 
-abbrev pub IsUnsealed : Contents → ℕ → Refusal → CoreState → CoreState → Type 0
-IsUnsealed filled actor refusal old new =
-    IsStepRefusal (part_of old.parts actor) old.tables old.disk.size old.known filled
-    (IsCompared old.disk.size old.known (Shows old.disk new.disk) filled) refusal
+abbrev pub AreUnsealed : List Contents → ℕ → Refusal → CoreState → CoreState → Type 0
+AreUnsealed offered actor refusal old new =
+    IsOfferRefusal (part_of old.parts actor) old.tables old.disk.size old.known offered
+    (AreCompared old.disk.size old.known (Shows old.disk new.disk)) refusal
 
 -- ---- a file that is given back
 
@@ -149,10 +156,10 @@ ClaimRow seg actor (Ok answers.Absent) old new = Claims Absent seg actor old new
 ClaimRow seg actor (Err refusal) old new = IsUnclaimed seg actor refusal old new × (new.parts ≡ old.parts)
 ClaimRow seg actor answer old new = ⊥
 
-abbrev pub SealRow : Contents → ℕ → Result Answer Refusal → CoreState → CoreState → Type 0
-SealRow filled actor (Ok (answers.Sealed id)) old new = IsSealed filled id actor old new
-SealRow filled actor (Err refusal) old new = IsUnsealed filled actor refusal old new × (new.parts ≡ old.parts)
-SealRow filled actor answer old new = ⊥
+abbrev pub SealRow : List Contents → ℕ → Result Answer Refusal → CoreState → CoreState → Type 0
+SealRow offered actor (Ok (answers.Sealed id count)) old new = AreSealed offered id count actor old new
+SealRow offered actor (Err refusal) old new = AreUnsealed offered actor refusal old new × (new.parts ≡ old.parts)
+SealRow offered actor answer old new = ⊥
 
 abbrev pub CommitRow : List ℕ → Root → ℕ → Result Answer Refusal → CoreState → CoreState → Type 0
 CommitRow name root actor (Ok (answers.Committed sequence)) old new =
@@ -207,7 +214,7 @@ ListRow answer old new = ⊥
 abbrev pub Row : StepValue → ℕ → Result Answer Refusal → List ℕ → CoreState → CoreState → Type 0
 Row asked.Begin actor answer buf old new = BeginRow actor answer old new
 Row (asked.Claim seg) actor answer buf old new = ClaimRow seg actor answer old new
-Row (asked.Seal filled) actor answer buf old new = SealRow filled actor answer old new
+Row (asked.Seal offered) actor answer buf old new = SealRow offered actor answer old new
 Row (asked.Commit name root) actor answer buf old new = CommitRow name root actor answer old new
 Row asked.Abort actor answer buf old new = AbortRow actor answer old new
 Row (asked.OpenRead name) actor answer buf old new = OpenRow name actor answer old new
@@ -240,42 +247,59 @@ IndexesAll store known = KnownMap known (IsIndexOf store.held)
 abbrev pub OfEachIndexed : ℕ → Option PlaceMap → Tables → (Store → Type 0) → Type 0
 OfEachIndexed size known t P = OfEach size known t (λ store. IndexesAll store known → P store)
 
+-- ---- changes, one after the other
+
+-- each where it can be made
+abbrev pub ChangesTo : List StoreChange → Store → Store → Type 0
+ChangesTo [] s t = t ≡ s
+ChangesTo (change ∷ rest) s t = CanChange change s × ChangesTo rest (changed change s) t
+
+-- the store after them
+abbrev pub changed_by : List StoreChange → Store → Store
+changed_by [] store = store
+changed_by (change ∷ rest) store = changed_by rest (changed change store)
+
+-- containers are sealed, under ids from one on
+abbrev pub seals_from : ℕ → List Contents → List StoreChange
+seals_from id [] = []
+seals_from id (c ∷ cs) = SealContainer id c.kind c.segments ∷ seals_from (suc id) cs
+
 -- the index has the keys of what a change adds
-abbrev pub IndexesAdded : StoreChange → PlaceMap → Type 0
-IndexesAdded (SealContainer id kind segments) index = AllByRecursion (λ s. HasKey index (segment_key kind s)) segments
-IndexesAdded (ChangeName name change) index = Unit {0}
-IndexesAdded (FlushContainer id kind segments) index = AllByRecursion (λ s. HasKey index (segment_key kind s)) segments
-IndexesAdded (FreeContainer slot) index = Unit {0}
+abbrev pub IndexesAdded : PlaceMap → StoreChange → Type 0
+IndexesAdded index (SealContainer id kind segments) = AllByRecursion (λ s. HasKey index (segment_key kind s)) segments
+IndexesAdded index (ChangeName name change) = Unit {0}
+IndexesAdded index (FlushContainer id kind segments) = AllByRecursion (λ s. HasKey index (segment_key kind s)) segments
+IndexesAdded index (FreeContainer slot) = Unit {0}
 
 -- a change adds no copy of this key
-abbrev pub AddsNone : StoreChange → List ℕ → Type 0
-AddsNone (SealContainer id kind segments) key = AllByRecursion (λ s. segment_key kind s ≢ key) segments
-AddsNone (ChangeName name change) key = Unit {0}
-AddsNone (FlushContainer id kind segments) key = AllByRecursion (λ s. segment_key kind s ≢ key) segments
-AddsNone (FreeContainer slot) key = Unit {0}
+abbrev pub AddsNone : List ℕ → StoreChange → Type 0
+AddsNone key (SealContainer id kind segments) = AllByRecursion (λ s. segment_key kind s ≢ key) segments
+AddsNone key (ChangeName name change) = Unit {0}
+AddsNone key (FlushContainer id kind segments) = AllByRecursion (λ s. segment_key kind s ≢ key) segments
+AddsNone key (FreeContainer slot) = Unit {0}
 
--- It can be made to this store, and the tables, whatever the index has, are those of the changed one.
-pub record MakesAlone (change : StoreChange) (store : Store) (size : ℕ) (t : Tables) : Type 0 where
-  pub can : CanChange change store
-  pub represents : Represents (changed change store) None t
-  pub valid : IsValidFor size (changed change store)
+-- They can be made to this store, and the tables, whatever the index has, are those of the changed one.
+pub record MakesAlone (changes : List StoreChange) (store : Store) (size : ℕ) (t : Tables) : Type 0 where
+  pub can : ChangesTo changes store (changed_by changes store)
+  pub represents : Represents (changed_by changes store) None t
+  pub valid : IsValidFor size (changed_by changes store)
 
--- A change is made: for each store that the tables stood for, tables and index are those of the changed one.
-pub record Makes (change : StoreChange) (old new : CoreState) : Type 0 where
-  pub can : OfEach old.disk.size old.known old.tables (CanChange change)
-  pub represents : OfEach old.disk.size old.known old.tables (λ store. Represents (changed change store) new.known new.tables)
-  pub valid : OfEach old.disk.size old.known old.tables (λ store. IsValidFor new.disk.size (changed change store))
+-- Changes are made: for each store that the tables stood for, tables and index are those of the changed one.
+pub record Makes (changes : List StoreChange) (old new : CoreState) : Type 0 where
+  pub can : OfEach old.disk.size old.known old.tables (λ store. ChangesTo changes store (changed_by changes store))
+  pub represents : OfEach old.disk.size old.known old.tables (λ store. Represents (changed_by changes store) new.known new.tables)
+  pub valid : OfEach old.disk.size old.known old.tables (λ store. IsValidFor new.disk.size (changed_by changes store))
   pub tells : KnownMap old.known (λ _. (places : PlaceMap) × (new.known ≡ Some places))
   -- no key leaves the index
   pub keeps_keys : KnownMap old.known (λ before. KnownMap new.known (λ after. (key : List ℕ) → HasKey before key → HasKey after key))
-  pub adds_keys : KnownMap old.known (λ _. KnownMap new.known (IndexesAdded change))
-  -- and no key that the change doesn't add has another place
-  pub keeps_others : KnownMap old.known (λ before. KnownMap new.known (λ after. (key : List ℕ) → AddsNone change key
+  pub adds_keys : KnownMap old.known (λ _. KnownMap new.known (λ after. AllByRecursion (IndexesAdded after) changes))
+  -- and no key that none of them adds has another place
+  pub keeps_others : KnownMap old.known (λ before. KnownMap new.known (λ after. (key : List ℕ) → AllByRecursion (AddsNone key) changes
       → finite.get after key ≡ finite.get before key))
   -- where it had all that was held, it has all that is
-  pub whole : OfEachIndexed old.disk.size old.known old.tables (λ store. IndexesAll (changed change store) new.known)
+  pub whole : OfEachIndexed old.disk.size old.known old.tables (λ store. IndexesAll (changed_by changes store) new.known)
   -- of the tables alone, whatever the index has
-  pub alone : OfEach old.disk.size None old.tables (λ store. MakesAlone change store new.disk.size new.tables)
+  pub alone : OfEach old.disk.size None old.tables (λ store. MakesAlone changes store new.disk.size new.tables)
   pub runs : Runs old.disk.size None old.tables → Runs new.disk.size None new.tables
   -- and with the index
   pub runs_indexed : Runs old.disk.size old.known old.tables → Runs new.disk.size new.known new.tables
@@ -285,12 +309,17 @@ pub record Rests (answer : Result Answer Refusal) (old new : CoreState) : Type 0
   pub disk : Reads (ending blames answer) old.disk new.disk
   pub tables : KeepsTables old new
 
--- A container is stored, or isn't; nothing changes but its slot and what lies after all slots (`moves.frame`). After a write
+-- those that were sealed, under ids from one on
+abbrev pub sealed_by : List Contents → Result Answer Refusal → ℕ → List StoreChange
+sealed_by offered (Ok (answers.Sealed id count)) first = seals_from first (take count offered)
+sealed_by offered answer first = []
+
+-- Containers are stored, or none is; nothing changes but their slots and what lies after all slots (`moves.frame`). After a write
 -- that failed only the disk's images are told.
-pub record SealsOne (filled : Contents) (answer : Result Answer Refusal) (old new : CoreState) : Type 0 where
+pub record SealsSome (offered : List Contents) (answer : Result Answer Refusal) (old new : CoreState) : Type 0 where
   pub disk : settled.Steps old.tables.slots (ending blames answer) old.disk new.disk
-  pub moves : SealsCompared old.tables old.known (next_id old) filled (ending blames answer) old.disk new.disk
-  pub made : OnOk answer (Makes (SealContainer (next_id old) filled.kind filled.segments) old new)
+  pub moves : SealsOffer old.tables old.known offered (ending blames answer) old.disk new.disk
+  pub made : OnOk answer (Makes (sealed_by offered answer (next_id old)) old new)
   pub kept : IfErr answer (λ refusal. KeepsUnlessBroken refusal old new)
 
 -- A name is given a root or taken away, or isn't.
@@ -299,7 +328,7 @@ pub record NamesOne (name : List ℕ) (change : Change) (answer : Result Answer 
   pub moves : ChangesName old.tables name change (ending blames answer) old.disk new.disk
   pub frame : ChangesJournalAlone old.tables name change old.disk new.disk
   pub durable : OnOk answer (IsDurable new.disk)
-  pub made : OnOk answer (Makes (ChangeName name change) old new)
+  pub made : OnOk answer (Makes (ChangeName name change ∷ []) old new)
   pub index : OnOk answer (new.known ≡ old.known)
   pub copies : OnOk answer ((store : Store) → Represents store old.known old.tables
       → Known old.disk.content (λ before. Encodes before store
@@ -307,7 +336,7 @@ pub record NamesOne (name : List ℕ) (change : Change) (answer : Result Answer 
   pub kept : OnErr answer (KeepsTables old new)
 
 abbrev pub Effect : StepValue → Result Answer Refusal → CoreState → CoreState → Type 0
-Effect (asked.Seal filled) answer old new = SealsOne filled answer old new
+Effect (asked.Seal offered) answer old new = SealsSome offered answer old new
 Effect (asked.Commit name root) answer old new = NamesOne name (Put root) answer old new
 Effect (asked.Delete name) answer old new = NamesOne name Delete answer old new
 Effect asked.GcStep answer old new = GcEffect answer old new
@@ -318,7 +347,7 @@ Effect step answer old new = Rests answer old new
 -- a write or a sync that failed, or damage that an index change met; then the refusal, and how many commands were acknowledged
 abbrev pub StopsAfter : StepValue → Result Answer Refusal → ℕ → Option Stop → Type 0
 StopsAfter step (Err refusals.DiskWrite) count stop = stop ≡ Some (record { refusal = refusals.DiskWrite; at = count })
-StopsAfter (asked.Seal filled) (Err (refusals.Damaged at why)) count stop =
+StopsAfter (asked.Seal offered) (Err (refusals.Damaged at why)) count stop =
     stop ≡ Some (record { refusal = refusals.Damaged at why; at = count })
 StopsAfter step answer count stop = stop ≡ None
 

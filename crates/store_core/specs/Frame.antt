@@ -15,7 +15,8 @@ use Rattle.store_model.specs.Standing.{HasJournal}
 use Rattle.store_model.specs.Steps.{StoreChange, HasCellsFor}
 use Rattle.store_state.specs.Settled.{IsSettled}
 use Rattle.store_state.specs.Tables.{Represents}
-use Rattle.store_core.specs.Runs.{AreNoGcSteps, FileEvent, CoreRun, ChangesTo, changes_of, events_of}
+use Rattle.store_core.specs.Core.{ChangesTo}
+use Rattle.store_core.specs.Runs.{AreNoGcSteps, FileEvent, CoreRun, changes_of, events_of}
 use Rattle.store_core.specs.State.{CoreState, Event}
 
 -- The tables are those of the store, which has a free slot, and the disk is settled.

@@ -1,8 +1,8 @@
 -- What the steps of a core keep of the segments that they were given (docs/MODEL.md, 'The core').
-use Rattle.std.specs.Prelude.{◌≡◌, List, [], ◌∷◌, ◌++◌, map, None, Result, Ok}
+use Rattle.std.specs.Prelude.{◌≡◌, List, [], ◌∷◌, ◌++◌, map, take, None, Result, Ok}
 use Rattle.std.specs.List.{AllByRecursion}
 use Rattle.dd_disk.specs.Moves.{StandsFor}
-use Rattle.container_meta.specs.Segments.{KindSegment, segment_key}
+use Rattle.container_meta.specs.Segments.{Contents, KindSegment, segment_key}
 use Rattle.actor_parts.specs.declared.step.Answer.{Answer}
 use Rattle.actor_parts.specs.declared.step.Answer.TheVariants as answers
 use Rattle.actor_parts.specs.Segments.{pin_of}
@@ -20,10 +20,15 @@ use Rattle.store_state.specs.Tables.{Represents}
 use Rattle.store_core.specs.Runs.{AreNoGcSteps, FileEvent, FileRun, IsAt, events_of}
 use Rattle.store_core.specs.State.{CoreState}
 
--- what a step keeps: a segment that was claimed and is held, and those of a container that was sealed
+-- the segments of containers, one after the other
+abbrev pub segments_in : List Contents → List KindSegment
+segments_in [] = []
+segments_in (c ∷ cs) = map (λ s. record { kind = c.kind; segment = s }) c.segments ++ segments_in cs
+
+-- what a step keeps: a segment that was claimed and is held, and those of the containers that were sealed
 abbrev pub kept_by : StepValue → Result Answer Refusal → List KindSegment
 kept_by (asked.Claim seg) (Ok answers.Held) = seg ∷ []
-kept_by (asked.Seal filled) (Ok (answers.Sealed id)) = map (λ s. record { kind = filled.kind; segment = s }) filled.segments
+kept_by (asked.Seal offered) (Ok (answers.Sealed id count)) = segments_in (take count offered)
 kept_by step answer = []
 
 -- and what steps keep, the first of them first

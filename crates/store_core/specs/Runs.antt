@@ -1,11 +1,12 @@
 -- Steps of a core one after the other, by any actors (docs/MODEL.md, 'The core').
-use Rattle.std.specs.Prelude.{Bool, true, ◌≡◌, ℕ, List, [], ◌∷◌, ◌++◌, ◌==◌, length, take, Option, None, Some, Result, Ok, Err}
+use Rattle.std.specs.Prelude.{Bool, true, ◌≡◌, ℕ, ◌+◌, ◌-◌, List, [], ◌∷◌, ◌++◌, ◌==◌, length, take, Option, None, Some, Result, Ok, Err}
 use Rattle.std.specs.List.{AllByRecursion}
 use Rattle.base_model.specs.Known.{Known}
 use Rattle.disk_format.specs.Cells.{Root}
 use Rattle.disk_format.specs.Cells.Change.{Delete, Put}
 use Rattle.dd_disk.specs.Moves.{StandsFor}
 use Rattle.container_meta.specs.Places.{PlaceMap}
+use Rattle.container_meta.specs.Segments.{Contents}
 use Rattle.actor_parts.specs.declared.step.Answer.{Answer}
 use Rattle.actor_parts.specs.declared.step.Answer.TheVariants as answers
 use Rattle.actor_parts.specs.StepValue as asked
@@ -18,7 +19,7 @@ use Rattle.store_model.specs.Image.{Store, IsValidFor}
 use Rattle.store_model.specs.Reserve.{AllKeys}
 use Rattle.store_model.specs.Slots.{HasKey}
 use Rattle.segment_index.specs.Places.{KnownMap}
-use Rattle.store_model.specs.Steps.{StoreChange, SealContainer, ChangeName, CanChange, changed}
+use Rattle.store_model.specs.Steps.{StoreChange, ChangeName}
 use Rattle.store_model.specs.Trees.{root_of, file_tree, HoldsTree}
 use Rattle.store_state.specs.Invariant.{CoreInvariant}
 use Rattle.store_state.specs.Tables.{Represents}
@@ -26,7 +27,7 @@ use Rattle.actor_parts.specs.declared.actor.TheConstants.{ACTORS}
 use Rattle.actor_parts.specs.declared.part.Part.{Part}
 use Rattle.gc_steps.specs.declared.collection.Collection.{Collection}
 use Rattle.gc_steps.specs.Safety.{IsSafe}
-use Rattle.store_core.specs.Core.{CoreStep}
+use Rattle.store_core.specs.Core.{CoreStep, seals_from}
 use Rattle.store_core.specs.State.{CoreState, Event, IsRunning, IsUnderWayIn}
 
 -- The first step makes of the core one of which the others make the last one. A core is anything that has a state.
@@ -73,10 +74,14 @@ IsRightCommit (Ok answer) root bytes old = IsRootOf root bytes old
 IsRightCommit (Err refusals.DiskWrite) root bytes old = IsRootOf root bytes old
 IsRightCommit answer root bytes old = Unit {0}
 
+-- each segment of containers is among S, where it is of data
+abbrev pub AreAmong : (List ℕ → Type 0) → List Contents → Type 0
+AreAmong S offered = AllByRecursion (λ c. AllByRecursion (λ s. IsAmong S c.kind s.bytes) c.segments) offered
+
 -- What the steps of a run are given: data is among S, and the roots of commits are right.
 abbrev pub IsGivenRight : (List ℕ → Type 0) → StepValue → Result Answer Refusal → List ℕ → CoreState → Type 0
 IsGivenRight S (asked.Claim seg) answer bytes old = IsAmong S seg.kind seg.segment.bytes
-IsGivenRight S (asked.Seal filled) answer bytes old = AllByRecursion (λ s. IsAmong S filled.kind s.bytes) filled.segments
+IsGivenRight S (asked.Seal offered) answer bytes old = AreAmong S offered
 IsGivenRight S (asked.Commit name root) answer bytes old = IsRightCommit answer root bytes old
 IsGivenRight S step answer bytes old = Unit {0}
 
@@ -108,14 +113,9 @@ pub record IsAt (S : List ℕ → Type 0) (store : Store) (stored : Stored) (c :
   pub under_way : IsUnderWayIn c.tables.held c.collection
   pub safe : Known c.disk.content (λ image. IsSafeIn index store c.parts image c.collection)
 
--- one change after the other, each where it can be made
-abbrev pub ChangesTo : List StoreChange → Store → Store → Type 0
-ChangesTo [] s t = t ≡ s
-ChangesTo (change ∷ rest) s t = CanChange change s × ChangesTo rest (changed change s) t
-
--- what a step changes, by its answer: a seal under an id that it answers, and a commit or a delete that was acknowledged
+-- what a step changes, by its answer: seals, the last of them under the id that it answers, and a commit or a delete that was acknowledged
 abbrev pub changes_by : StepValue → Result Answer Refusal → List StoreChange
-changes_by (asked.Seal filled) (Ok (answers.Sealed id)) = SealContainer id filled.kind filled.segments ∷ []
+changes_by (asked.Seal offered) (Ok (answers.Sealed id count)) = seals_from (id + 1 - count) (take count offered)
 changes_by (asked.Commit name root) (Ok answer) = ChangeName name (Put root) ∷ []
 changes_by (asked.Delete name) (Ok answer) = ChangeName name Delete ∷ []
 changes_by step answer = []

@@ -1,9 +1,9 @@
 //! What a step keeps becomes live, where a collection runs.
-ghost use Rattle.std.specs.Prelude.{◌≡◌, List, ℕ, true, false, map, Contains, Option, IfErr, IfOk, OnErr, OnOk};
-ghost use Rattle.container_meta.specs.Segments.{segment_key};
+ghost use Rattle.std.specs.Prelude.{◌≡◌, ◌++◌, List, ℕ, true, false, Contains, Option, IfErr, IfOk, OnErr, OnOk};
+ghost use Rattle.container_meta.specs.Segments.{keys_of as segment_keys};
 ghost use Rattle.refusals.specs.declared.refusal.Refusal.TheVariants.{Memory};
 ghost use Rattle.gc_steps.specs.declared.collection.Collection.{Collection as CollectionValue};
-ghost use Rattle.store_core.specs.Collecting.{MarksIn, Restores};
+ghost use Rattle.store_core.specs.Collecting.{MarksIn, Restores, keys_in};
 
 use container_meta::{Key, OpenContainer, key_of};
 use gc_steps::{Collection, mark_fresh, unmark};
@@ -27,26 +27,35 @@ pub(crate) fn mark_key(
     }
 }
 
-// The keys of the segments of a container.
-fn keys_of(alloc: Global, filled: &OpenContainer) -> Result<Vec<Key>, AllocError>
-    ensures { IfOk result (λ keys. keys.items ≡ map (segment_key filled.now.kind) filled.now.segments) }
+// Adds the keys of the segments of a container.
+fn add_keys(keys: &mut Vec<Key>, filled: &OpenContainer) -> Result<(), AllocError>
+    ensures { OnOk result (keys.new.items ≡ keys.old.items ++ segment_keys filled.now) }
 {
-    let mut keys = Vec::new(alloc);
     for entry in filled.entries() {
         keys.push(key_of(filled.kind(), &entry.digest))?;
+    }
+    Ok(())
+}
+
+// The keys of the segments of containers, one after the other.
+fn keys_of(alloc: Global, filled: &[OpenContainer]) -> Result<Vec<Key>, AllocError>
+    ensures { IfOk result (λ keys. keys.items ≡ keys_in filled.now) }
+{
+    let mut keys = Vec::new(alloc);
+    for i in 0..filled.len() {
+        add_keys(&mut keys, &filled[i])?;
     }
     Ok(keys)
 }
 
-/// Makes the keys of a container's segments live, and gives those that were not. The one refusal is `Memory`, and leaves each key
-/// as live as it was.
-pub(crate) fn mark_container(
+/// Makes the keys of the segments of containers live, and gives those that were not. The one refusal is `Memory`, and leaves each
+/// key as live as it was.
+pub(crate) fn mark_containers(
     alloc: Global,
     collection: &mut Option<Collection>,
-    filled: &OpenContainer,
+    filled: &[OpenContainer],
 ) -> Result<Vec<Key>, Refusal>
-    ensures marks { OnOk result (MarksIn (Contains (map (segment_key filled.now.kind) filled.now.segments)) collection.old
-        collection.new) }
+    ensures marks { OnOk result (MarksIn (Contains (keys_in filled.now)) collection.old collection.new) }
     ensures fresh { IfOk result (λ fresh. Restores collection.old collection.new fresh.items) }
     ensures refused { IfErr result (λ refusal. refusal ≡ Memory) }
     ensures kept { OnErr result (MarksIn (λ k. ⊥) collection.old collection.new) }
@@ -60,7 +69,7 @@ pub(crate) fn mark_container(
     }
 }
 
-// Takes marks away. Those that `mark_key` or `mark_container` gave leave each key as live as it was before.
+// Takes marks away. Those that `mark_key` or `mark_containers` gave leave each key as live as it was before.
 fn unmark_keys(collection: &mut Option<Collection>, keys: &[Key])
     ensures { (before : Option CollectionValue) → Restores before collection.old keys.now → MarksIn (λ k. ⊥) before collection.new }
 {

@@ -11,14 +11,14 @@ ghost use Rattle.store_core.specs.Collecting.{Collects, IsHeldAnswer};
 ghost use Rattle.store_core.specs.Core.{MadeBefore, CoreStep, StopsAfter, IsCount, counted};
 ghost use Rattle.store_core.specs.State.{IsUp, IsRunning, IsSame, IsStopped};
 
-use crate::marking::{mark_container, mark_key, unmark_unless};
+use crate::marking::{mark_containers, mark_key, unmark_unless};
 use crate::state::HasState;
 use crate::stop::Stop;
 use actor_parts::{Actor, Answer, Parts, Percent, SegBuf, Step};
 use container_meta::{OpenContainer, Seg};
 use dd_disk::Disk;
 use gc_steps::{Collection, StepDone, phase_of, start, step};
-use ingest_steps::{Claimed, abort, begin, claim, commit, delete, seal};
+use ingest_steps::{Claimed, abort, begin, claim, commit, delete, room_for, seal_together};
 use namespace::Root;
 use read_steps::{end_read, list, open_read, read_next, stat};
 use refusals::{PartKind, Refusal};
@@ -278,7 +278,7 @@ impl<D: Disk, M: Summary> Core<D, M> {
     fn seal_alone(
         &mut self,
         actor: Actor,
-        filled: &OpenContainer,
+        filled: &[OpenContainer],
         buf: &mut SegBuf,
     ) -> Result<Answer, Refusal>
         requires asked { IsStep (asked.Seal filled.now) }
@@ -290,7 +290,7 @@ impl<D: Disk, M: Summary> Core<D, M> {
         ensures count { self.new.acknowledged ≡ self.old.acknowledged }
         ensures collection { self.new.collection ≡ self.old.collection }
     {
-        match seal(
+        match seal_together(
             self.alloc,
             &mut self.disk,
             &mut self.tables,
@@ -300,7 +300,10 @@ impl<D: Disk, M: Summary> Core<D, M> {
             filled,
             buf,
         ) {
-            Ok(id) => Ok(Answer::Sealed { id }),
+            Ok(sealed) => Ok(Answer::Sealed {
+                id: sealed.id,
+                count: sealed.count,
+            }),
             Err(refusal) => Err(refusal),
         }
     }
@@ -322,11 +325,11 @@ impl<D: Disk, M: Summary> Core<D, M> {
         answer
     }
 
-    // So it is with the segments of a container that is sealed.
+    // So it is with the segments of the containers that are sealed: those for which there is room.
     fn seal(
         &mut self,
         actor: Actor,
-        filled: &OpenContainer,
+        filled: &[OpenContainer],
         buf: &mut SegBuf,
     ) -> Result<Answer, Refusal>
         requires asked { IsStep (asked.Seal filled.now) }
@@ -339,7 +342,8 @@ impl<D: Disk, M: Summary> Core<D, M> {
         ensures stop { self.new.stop ≡ self.old.stop }
         ensures count { self.new.acknowledged ≡ self.old.acknowledged }
     {
-        let fresh = mark_container(self.alloc, &mut self.collection, filled)?;
+        let room = room_for(&self.tables, filled.len());
+        let fresh = mark_containers(self.alloc, &mut self.collection, &filled[..room])?;
         let answer = self.seal_alone(actor, filled, buf);
         unmark_unless(&mut self.collection, &fresh, answer.is_ok());
         answer

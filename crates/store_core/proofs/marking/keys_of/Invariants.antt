@@ -1,6 +1,6 @@
-use Rattle.store_core.proofs.Prelude.{◌≡◌, map, take}
-use Rattle.store_core.proofs.Marks.{entry_key}
+use Rattle.store_core.proofs.Prelude.{◌≡◌, take}
+use Rattle.store_core.specs.Collecting.{keys_in}
 use Rattle.store_core.proofs.marking.keys_of.Given as goal
 
-abbrev pub invariant-loop-entry : goal.invariant-loop-entry
-invariant-loop-entry l = l.keys.items ≡ map (entry_key l.filled.kind) (take l.entry-index l.entry-items)
+abbrev pub invariant-loop-i : goal.invariant-loop-i
+invariant-loop-i l = l.keys.items ≡ keys_in (take l.i l.filled)

@@ -4,8 +4,8 @@ use Rattle.store_core.proofs.running.Core.seal_alone.Goals as goal
 
 pub returns-in-Ok-clause-made : goal.returns-in-Ok-clause-made
 returns-in-Ok-clause-made g c = λ bytes stop count.
-    made_seal c.args.filled.now c.args.actor c.in-Ok.id c.in-Ok.ensures.ok.slot bytes _ _ _ _ c.args.self.now.index refl c.in-Ok.ensures.ok
-    (index_has c.args.filled.now c.in-Ok.ensures.ok.slot _ _ _ _ c.args.self.now.index _ c.in-Ok.ensures.ok.map refl refl refl refl)
+    made_seal c.args.filled.now c.args.actor c.in-Ok.sealed bytes _ _ _ _ c.args.self.now.index refl c.requires.up.runs c.requires.asked.0 c.in-Ok.ensures.ok
+    (index_has _ _ _ _ _ c.args.self.now.index _ c.in-Ok.ensures.ok.map refl refl refl refl)
     c.in-Ok.ensures.disk c.in-Ok.ensures.moves c.in-Ok.ensures.kept (λ served. c.in-Ok.ensures.served)
 
 pub returns-in-Err-clause-made : goal.returns-in-Err-clause-made

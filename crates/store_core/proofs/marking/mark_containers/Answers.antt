@@ -1,6 +1,6 @@
 use Rattle.store_core.proofs.Prelude.{◌∙◌}
 use Rattle.store_core.proofs.Marks.{contains_same, marks_all, marks_kept, marks_same, restores_ok}
-use Rattle.store_core.proofs.marking.mark_container.Goals as goal
+use Rattle.store_core.proofs.marking.mark_containers.Goals as goal
 
 pub returns-in_err-keys-in-Some-clause-kept : goal.returns-in_err-keys-in-Some-clause-kept
 returns-in_err-keys-in-Some-clause-kept c = marks_same c.from_residual.result c.args.collection.now c.in-Some.running c.in-Some.is

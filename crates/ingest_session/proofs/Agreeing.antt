@@ -1,5 +1,5 @@
 -- A session in which an item has its turn is like one that goes on.
-use Rattle.ingest_session.proofs.Prelude.{◌≡◌, ◌⊎◌, inl, inr, ◌∙◌, ℕ, Bool, true, false, ◌&&◌, List, [], ◌∷◌, ◌++◌, Some, length, refl, sym, ap, subst, append-nil, ◌==◌, Kind, Leaf, Tree, Contents, has_key, child_kind, node_segment, leaf_key, node_key, Due, Claim, Seal, Nothing, has_child_of, due_in, due_node, end_due, is_node_due, item_due, item_is_there, item_kind, node_due, open_of, queue_due, queue_is_there, turn_for, turn_in, first_of, turn, turn_of, item_of, SessionState, is_last, leaf_segment, node_in_turn, turn_node}
+use Rattle.ingest_session.proofs.Prelude.{◌≡◌, ◌⊎◌, inl, inr, ◌∙◌, ℕ, Bool, true, false, ◌&&◌, List, [], ◌∷◌, ◌++◌, Some, length, refl, sym, ap, subst, append-nil, ◌==◌, Kind, Leaf, Tree, Contents, has_key, child_kind, node_segment, leaf_key, node_key, Due, Claim, Seal, Nothing, has_child_of, due_in, due_node, end_due, is_node_due, item_due, item_is_there, item_kind, gathered, node_due, queue_due, queue_is_there, turn_for, turn_in, first_of, turn, turn_of, item_of, SessionState, is_last, leaf_segment, node_in_turn, turn_node}
 use Rattle.std.proofs.Common.{not, ◌||◌, if◌then◌else◌, Option, None}
 use Rattle.std.specs.Prelude.{nat_le}
 use Rattle.std.proofs.lemmas.Bool.{cases_Bool}
@@ -9,6 +9,7 @@ use Rattle.ingest_session.specs.declared.line.TheConstants.{LONG_LINE}
 use Rattle.ingest_session.specs.Due.{node_is_there}
 use Rattle.ingest_session.specs.Items.{front_segment}
 use Rattle.ingest_session.proofs.Ends.{due_at_end}
+use Rattle.ingest_session.proofs.Gathered.{gathered_same}
 use Rattle.ingest_session.proofs.InLine.{first_stays, turn_is_first}
 use Rattle.ingest_session.proofs.Replaying.{IsLike, core_of, waiting_turn}
 use Rattle.ingest_session.proofs.Waiting.{on_and_off}
@@ -18,6 +19,7 @@ use Rattle.ingest_session.proofs.Waiting.{on_and_off}
 pub record Agrees (s t : SessionState) : Type 0 where
   pub leaves : t.leaves ≡ s.leaves
   pub nodes : t.nodes ≡ s.nodes
+  pub aside : t.aside ≡ s.aside
   pub waits : t.waits ≡ s.waits
   pub more : List node.Contents
   pub line : t.line ≡ s.line ++ more
@@ -63,9 +65,8 @@ end_by ended leaves nodes =
 
 module _ (s t : SessionState) (agrees : Agrees s t) (right : s.waits ≡ false → s.turn ≡ turn_in s)
     (at_end : turn s ≡ [] → (t.ended ≡ s.ended) × (t.queue ≡ s.queue)) where
-  open_is : (kind : Kind) → open_of t kind ≡ open_of s kind
-  open_is Leaf = agrees.leaves
-  open_is Tree = agrees.nodes
+  gathered_is : (kind : Kind) → gathered t kind ≡ gathered s kind
+  gathered_is kind = gathered_same s t agrees.leaves agrees.nodes agrees.aside kind
 
   module _ (last : is_last t.ended t.queue ≡ is_last s.ended s.queue) where
     line_is : t.line ≡ s.line
@@ -73,9 +74,9 @@ module _ (s t : SessionState) (agrees : Agrees s t) (right : s.waits ≡ false �
 
     due_is : (n : node.Contents) → is_node_due t n ≡ is_node_due s n
     due_is n =
-        ap (λ (ns : List node.Contents). nat_le LONG_LINE (length ns) || is_last t.ended t.queue || not (has_child_of (open_of t (child_kind n.level)) n)) line_is
-        ∙ ap (λ (b : Bool). nat_le LONG_LINE (length s.line) || b || not (has_child_of (open_of t (child_kind n.level)) n)) last
-        ∙ ap (λ (c : Contents). nat_le LONG_LINE (length s.line) || is_last s.ended s.queue || not (has_child_of c n)) (open_is (child_kind n.level))
+        ap (λ (ns : List node.Contents). nat_le LONG_LINE (length ns) || is_last t.ended t.queue || not (has_child_of (gathered t (child_kind n.level)) n)) line_is
+        ∙ ap (λ (b : Bool). nat_le LONG_LINE (length s.line) || b || not (has_child_of (gathered t (child_kind n.level)) n)) last
+        ∙ ap (λ (c : Contents). nat_le LONG_LINE (length s.line) || is_last s.ended s.queue || not (has_child_of c n)) (gathered_is (child_kind n.level))
 
     turn_is_by : (line : List node.Contents) → turn_for t line ≡ turn_for s line
     turn_is_by [] = refl
@@ -157,30 +158,32 @@ module _ (s t : SessionState) (agrees : Agrees s t) (right : s.waits ≡ false �
   there_is [] queue none = ap (queue_is_there t) ((at_end (nothing_by None [] none queue refl refl)).1 ∙ queue)
   there_is (x ∷ xs) queue none =
       ap (queue_is_there t) (agrees.queue ∙ ap (λ (ss : List (List ℕ)). ss ++ agrees.extra) queue)
-      ∙ ap (λ (c : Contents). has_segment c (leaf_segment x).segment) agrees.leaves
+      ∙ ap (λ (c : Contents). has_segment c (leaf_segment x).segment) (gathered_is Leaf)
 
   end_is : t.ended ≡ s.ended → end_due t ≡ end_due s
   end_is ended =
-      ap (λ (e : Bool). end_by e t.leaves t.nodes) ended ∙ ap (λ (c : Contents). end_by s.ended c t.nodes) agrees.leaves ∙ ap (end_by s.ended s.leaves) agrees.nodes
+      ap (λ (e : Bool). end_by e (gathered t Leaf) t.nodes) ended
+      ∙ ap (λ (c : Contents). end_by s.ended c t.nodes) (gathered_is Leaf)
+      ∙ ap (end_by s.ended (gathered s Leaf)) agrees.nodes
 
   queue_step_is : (queue : List (List ℕ)) → s.queue ≡ queue → turn_node s ≡ None → queue_due t t.queue ≡ queue_due s queue
   queue_step_is [] queue none =
       let same = at_end (nothing_by None [] none queue refl refl) in ap (queue_due t) (same.1 ∙ queue) ∙ end_is same.0
   queue_step_is (x ∷ xs) queue none =
       ap (queue_due t) (agrees.queue ∙ ap (λ (ss : List (List ℕ)). ss ++ agrees.extra) queue)
-      ∙ ap (λ (c : Contents). if has_key c (leaf_key x) then Seal Leaf else Claim) agrees.leaves
+      ∙ ap (λ (c : Contents). if has_key c (leaf_key x) then Seal Leaf else Claim) (gathered_is Leaf)
 
   node_step_is : (n : node.Contents) → node_due t n ≡ node_due s n
   node_step_is n =
       ap (λ (c : Contents). if has_child_of c n then Seal (child_kind n.level) else if has_key t.nodes (node_key n) then Seal Tree else Claim)
-      (open_is (child_kind n.level))
-      ∙ ap (λ (c : Contents). if has_child_of (open_of s (child_kind n.level)) n then Seal (child_kind n.level) else if has_key c (node_key n) then Seal Tree else Claim)
+      (gathered_is (child_kind n.level))
+      ∙ ap (λ (c : Contents). if has_child_of (gathered s (child_kind n.level)) n then Seal (child_kind n.level) else if has_key c (node_key n) then Seal Tree else Claim)
       agrees.nodes
 
   node_there_is : (n : node.Contents) → node_is_there t n ≡ node_is_there s n
   node_there_is n =
-      ap (λ (c : Contents). not (has_child_of c n) && has_segment t.nodes (node_segment n).segment) (open_is (child_kind n.level))
-      ∙ ap (λ (c : Contents). not (has_child_of (open_of s (child_kind n.level)) n) && has_segment c (node_segment n).segment) agrees.nodes
+      ap (λ (c : Contents). not (has_child_of c n) && has_segment t.nodes (node_segment n).segment) (gathered_is (child_kind n.level))
+      ∙ ap (λ (c : Contents). not (has_child_of (gathered s (child_kind n.level)) n) && has_segment c (node_segment n).segment) agrees.nodes
 
   item_by : (n : Option node.Contents) → turn_node s ≡ n → item_of n t.queue ≡ item_of n s.queue
   item_by (Some n) which = refl
@@ -216,10 +219,11 @@ module _ (s t : SessionState) (agrees : Agrees s t) (right : s.waits ≡ false �
 
   core_is : core_of t ≡ core_of s
   core_is =
-      ap (λ (c : Contents). record { leaves = c; nodes = t.nodes; waits = waiting_turn t.waits t.turn }) agrees.leaves
-      ∙ ap (λ (c : Contents). record { leaves = s.leaves; nodes = c; waits = waiting_turn t.waits t.turn }) agrees.nodes
-      ∙ ap (λ (w : Bool). record { leaves = s.leaves; nodes = s.nodes; waits = waiting_turn w t.turn }) agrees.waits
-      ∙ ap (λ (k : Kind). record { leaves = s.leaves; nodes = s.nodes; waits = waiting_turn s.waits k }) both.0
+      ap (λ (c : Contents). record { leaves = c; nodes = t.nodes; aside = t.aside; waits = waiting_turn t.waits t.turn }) agrees.leaves
+      ∙ ap (λ (c : Contents). record { leaves = s.leaves; nodes = c; aside = t.aside; waits = waiting_turn t.waits t.turn }) agrees.nodes
+      ∙ ap (λ (cs : List Contents). record { leaves = s.leaves; nodes = s.nodes; aside = cs; waits = waiting_turn t.waits t.turn }) agrees.aside
+      ∙ ap (λ (w : Bool). record { leaves = s.leaves; nodes = s.nodes; aside = s.aside; waits = waiting_turn w t.turn }) agrees.waits
+      ∙ ap (λ (k : Kind). record { leaves = s.leaves; nodes = s.nodes; aside = s.aside; waits = waiting_turn s.waits k }) both.0
 
   pub like : IsLike s t
   like = record {

@@ -69,6 +69,8 @@ module _ (s : SessionState) (is : IsSession s) (ongoing : s.ended ≡ false) whe
         closed = λ at_end. absurd (not_last_and_one s.queue x at_end);
         next = is.next;
         nodes_right = is.nodes_right;
+        aside = is.aside;
+        together = is.together;
         full = λ on. full_stays s x (is.waits on).0 is.ahead (is.full on);
         line = is.line;
         waits = λ on. ((is.waits on).0, λ _ at_end. absurd (not_last_and_one (rest_of s) x (ap (is_last true) (sym grows) ∙ at_end)));
@@ -97,6 +99,8 @@ module _ (s : SessionState) (is : IsSession s) (ongoing : s.ended ≡ false) whe
         closed = λ at_end. absurd (yes_and_no _ (empty_has_no_rest s.ahead s.queue at_end) not_last);
         next = is.next;
         nodes_right = is.nodes_right;
+        aside = is.aside;
+        together = is.together;
         full = is.full;
         line = is.line;
         waits = λ on. ((is.waits on).0, λ _ at_end. absurd (yes_and_no _ at_end not_last));

@@ -17,9 +17,9 @@ nothing_is_begun : levels_left (map (map (child_of itself)) (open_over ByCount [
 unfolding open_trees whole_from rest_from
 nothing_is_begun = refl
 
-pub new_is_session : (hand : Hand) (queue : List (List ℕ)) (line : List node.Contents) (b : Progress) (leaves nodes : Contents) → hand ≡ empty_hand → queue ≡ []
-    → line ≡ [] → Holds b [] []
-    → leaves ≡ record { kind = Leaf; segments = [] } → nodes ≡ record { kind = Tree; segments = [] }
+pub new_is_session : (hand : Hand) (queue : List (List ℕ)) (line : List node.Contents) (b : Progress) (leaves nodes : Contents)
+    (aside : List Contents) → hand ≡ empty_hand → queue ≡ [] → line ≡ [] → Holds b [] []
+    → leaves ≡ record { kind = Leaf; segments = [] } → nodes ≡ record { kind = Tree; segments = [] } → aside ≡ []
     → IsSession (record {
       count = 0;
       ended = false;
@@ -33,13 +33,14 @@ pub new_is_session : (hand : Hand) (queue : List (List ℕ)) (line : List node.C
       top = None;
       leaves = leaves;
       nodes = nodes;
+      aside = aside;
       waits = false;
       unseen = 0;
     })
-new_is_session hand queue line b leaves nodes empty none unlined holds first second =
+new_is_session hand queue line b leaves nodes aside empty none unlined holds first second third =
     let bytes : total_of b.rows ≡ 0 = holds.length in
     let count : b.leaves ≡ 0 = holds.count in
-    rw (empty, none, unlined, first, second)
+    rw (empty, none, unlined, first, second, third)
     (record {
       data_kind = refl;
       tree_kind = refl;
@@ -59,6 +60,8 @@ new_is_session hand queue line b leaves nodes empty none unlined holds first sec
           let finished = ap length (new_builder_has_no_node b holds) in
           let levels = ap levels_left holds.rows ∙ nothing_is_begun in omega (arith, finished, levels);
       nodes_right = tt;
+      aside = tt;
+      together = omega arith;
       waits = λ on. absurd (cc);
       full = λ on. absurd (cc);
     })

@@ -1,5 +1,5 @@
 -- When a file has ended and nothing is due, all of it is kept.
-use Rattle.ingest_session.proofs.Prelude.{◌≡◌, ◌≤◌, ◌∙◌, ℕ, Bool, true, false, inl, inr, List, [], ◌∷◌, ◌++◌, Some, IsSome, length, take, refl, sym, ap, subst, append-nil, take_all, arith, ne_eqb, or_left, or_right, ◌==◌, MOST_FILE, Kind, Leaf, Tree, KindSegment, Segment, has_key, Hand, segments_of, Top, ByCount, room_of, Progress, itself, nodes_of, of_segment, tree_of, segments_alike, child_kind, Piece, Data, Node, IsPieceOf, nodes_of_file, piece_segment, leaf_key, node_key, Due, Claim, Seal, Nothing, has_child_of, due_in, due_node, end_due, is_node_due, item_due, item_kind, node_due, open_of, queue_due, turn_for, IsKept, data_in, nodes_in, History, HasHistory, SessionState, IsAhead, is_last, node_in_turn, rest_of, turn_node, IsCutInto}
+use Rattle.ingest_session.proofs.Prelude.{◌≡◌, ◌≤◌, ◌∙◌, ℕ, Bool, true, false, inl, inr, List, [], ◌∷◌, ◌++◌, Some, IsSome, length, take, refl, sym, ap, subst, append-nil, take_all, arith, ne_eqb, or_left, or_right, ◌==◌, MOST_FILE, Kind, Leaf, Tree, KindSegment, Segment, has_key, Hand, segments_of, Top, ByCount, room_of, Progress, nodes_of, of_segment, tree_of, segments_alike, child_kind, Piece, Data, Node, IsPieceOf, nodes_of_file, piece_segment, leaf_key, node_key, Due, Claim, Seal, Nothing, due_in, due_node, end_due, is_node_due, item_due, item_kind, gathered, node_due, queue_due, turn_for, IsKept, data_in, nodes_in, History, HasHistory, SessionState, IsAhead, is_last, node_in_turn, rest_of, turn_node, IsCutInto}
 use Rattle.std.proofs.Common.{if◌then◌else◌, Option, None}
 use Rattle.std.specs.Prelude.{not}
 use Rattle.disk_format.specs.Cells.{Root}
@@ -7,6 +7,7 @@ use Rattle.merkle_file.specs.Node as node
 use Rattle.merkle_file.specs.Tree as tree
 use Rattle.store_model.specs.Trees.{file_tree, root_of}
 use Rattle.ingest_session.specs.Calls.{ready_by, root_by}
+use Rattle.ingest_session.specs.Due.{child_is_open}
 use Rattle.ingest_session.specs.Facts.{AllIsKept, BytesAreCounted}
 use Rattle.ingest_session.proofs.Answering.{known}
 use Rattle.ingest_session.proofs.Following.{IsBuilt, begun, pushed_and_rest, pushed_of, taken_of}
@@ -73,7 +74,7 @@ record IsDone (s : SessionState) : Type 0 where
   waits : s.waits ≡ false
   line : s.line ≡ []
   queue : s.queue ≡ []
-  leaves : s.leaves.segments ≡ []
+  leaves : (gathered s Leaf).segments ≡ []
   nodes : s.nodes.segments ≡ []
 
 no_seal : (b : Bool) (k : Kind) (due : Due) → (if b then Seal k else due) ≡ Nothing → (b ≡ false) × (due ≡ Nothing)
@@ -82,12 +83,12 @@ no_seal false k due is = (refl, is)
 
 node_is_due : (s : SessionState) (n : node.Contents) → node_due s n ≡ Nothing → ⊥
 node_is_due s n due =
-    let other = (no_seal (has_child_of (open_of s (child_kind n.level)) n) (child_kind n.level) _ due).1 in
+    let other = (no_seal (child_is_open s n) (child_kind n.level) _ due).1 in
     let claim = (no_seal (has_key s.nodes (node_key n)) Tree Claim other).1 in cc
 
 queue_done : (s : SessionState) (queue : List (List ℕ)) → queue_due s queue ≡ Nothing → (queue ≡ []) × (end_due s ≡ Nothing)
 queue_done s [] due = (refl, due)
-queue_done s (x ∷ xs) due = absurd (let claim = (no_seal (has_key s.leaves (leaf_key x)) Leaf Claim due).1 in cc)
+queue_done s (x ∷ xs) due = absurd (let claim = (no_seal (has_key (gathered s Leaf) (leaf_key x)) Leaf Claim due).1 in cc)
 
 item_done : (s : SessionState) (n : Option node.Contents) → item_due s n ≡ Nothing → (n ≡ None) × (s.queue ≡ []) × (end_due s ≡ Nothing)
 item_done s (Some n) due = absurd (node_is_due s n due)
@@ -97,13 +98,13 @@ none_in : (segments : List Segment) → not (length segments == 0) ≡ false →
 none_in [] none = refl
 none_in (x ∷ xs) none = on_and_off _ (ap not (ne_eqb (length (x ∷ xs)) 0 (λ is. omega (arith, is)))) none
 
-end_done : (s : SessionState) → s.ended ≡ true → end_due s ≡ Nothing → (s.leaves.segments ≡ []) × (s.nodes.segments ≡ [])
+end_done : (s : SessionState) → s.ended ≡ true → end_due s ≡ Nothing → ((gathered s Leaf).segments ≡ []) × (s.nodes.segments ≡ [])
 end_done s ended due =
-    let open_due : (if not (length s.leaves.segments == 0) then Seal Leaf else (if not (length s.nodes.segments == 0) then Seal Tree else Nothing)) ≡ Nothing =
+    let open_due : (if not (length (gathered s Leaf).segments == 0) then Seal Leaf else (if not (length s.nodes.segments == 0) then Seal Tree else Nothing)) ≡ Nothing =
     rw ended at due in
-    let leaves = no_seal (not (length s.leaves.segments == 0)) Leaf _ open_due in
+    let leaves = no_seal (not (length (gathered s Leaf).segments == 0)) Leaf _ open_due in
     let nodes = no_seal (not (length s.nodes.segments == 0)) Tree Nothing leaves.1 in
-    (none_in s.leaves.segments leaves.0, none_in s.nodes.segments nodes.0)
+    (none_in (gathered s Leaf).segments leaves.0, none_in s.nodes.segments nodes.0)
 
 -- a node that stands in line at the end is due
 pub due_at_end : (s : SessionState) (n : node.Contents) → is_last s.ended s.queue ≡ true → is_node_due s n ≡ true
@@ -162,7 +163,7 @@ module _ (s : SessionState) (h : History) (has : HasHistory s h) (ended : s.ende
   all_nodes : nodes_of_file h.given ≡ nodes_in h.placed
   all_nodes = nodes_at_end s h has ended (done_in s ended due).line (done_in s ended due).queue
 
-  none_open : (kind : Kind) (x : Segment) → IsIn x (open_of s kind).segments → ⊥
+  none_open : (kind : Kind) (x : Segment) → IsIn x (gathered s kind).segments → ⊥
   none_open Leaf x there = in_none x (subst (IsIn x) (done_in s ended due).leaves there)
   none_open Tree x there = in_none x (subst (IsIn x) (done_in s ended due).nodes there)
 

@@ -1,5 +1,5 @@
 -- What is claimed and sealed are pieces of the file, and the children of each node are kept before it.
-use Rattle.ingest_session.proofs.Prelude.{◌++◌, ◌∙◌, append_assoc, arith, Segment, HasPieceOf, open_of, turn_in, data_in, nodes_in}
+use Rattle.ingest_session.proofs.Prelude.{◌++◌, ◌∙◌, append_assoc, arith, Segment, HasPieceOf, gathered, turn_in, data_in, nodes_in}
 use Rattle.ingest_session.specs.Facts.{ChildrenComeFirst, NodesAreFew, OpenNodesHaveChildren, OpensArePieces, PlacedComeFirst, TurnsArePieces}
 use Rattle.ingest_session.proofs.Answering.{known}
 use Rattle.ingest_session.proofs.Following.{taken_of}
@@ -31,7 +31,7 @@ turns_are_pieces s h more has follow =
 
 pub opens_are_pieces : OpensArePieces
 opens_are_pieces s h more has follow kind =
-    all_of (λ (x : Segment). HasPieceOf (h.given ++ more) (record { kind = kind; segment = x })) (open_of s kind).segments
+    all_of (λ (x : Segment). HasPieceOf (h.given ++ more) (record { kind = kind; segment = x })) (gathered s kind).segments
     (λ x there.
     let piece = (known s h has).opens kind x there in
     (piece.0, growing.placed_are_pieces s h.given h.placed (session_of s h has) (known s h has).follows more follow piece.0 piece.1, piece.2))

@@ -1,5 +1,5 @@
 -- A node may be added to the open container of nodes.
-use Rattle.ingest_session.proofs.Prelude.{◌≡◌, ◌≤◌, ◌+◌, ◌*◌, ◌∙◌, ℕ, true, false, Some, length, refl, sym, ap, subst, rules, MOST_LEVEL, Tree, Contents, KindSegment, has_key, IsNode, spelling, contents_in, length_spelling, IsStepSegment, node_segment, node_key, IsSpelled}
+use Rattle.ingest_session.proofs.Prelude.{◌≡◌, ◌≤◌, ◌+◌, ◌*◌, ◌∙◌, ℕ, true, false, Some, length, refl, sym, ap, subst, rules, MOST_LEVEL, Tree, Contents, KindSegment, has_key, spelling, contents_in, length_spelling, IsStepSegment, node_segment, node_key, IsSpelled}
 use Rattle.std.proofs.Common.{Option, None, IfSome}
 use Rattle.disk_format.specs.declared.numbers.TheConstants.{MOST_CHILDREN}
 use Rattle.container_meta.specs.Format.{child_count, is_length, is_level}

@@ -315,28 +315,24 @@ item_ahead None spelled None none has = absurd has
 item_ahead None spelled (Some seg) none has = refl
 item_ahead (Some n) spelled ahead none has = absurd (cc)
 
-item_follows : (s : SessionState) (n : Option node.Contents) (given : List ℕ) (placed : List Piece) → turn_node s ≡ n → HasItem (turn_node s) s.spelled s.ahead →
-    IsAhead s.ahead s.queue → IsWhole s.top (is_last s.ended (rest_of s)) → IsClosed s →
-    Follows s given placed → Follows (placed_item n s) given (placed ++ turn_of n s.queue)
-item_follows s (Some n) given placed is has ahead whole closed follows = placed_node_follows s n given placed is follows
-item_follows s None given placed is has ahead whole closed follows =
-    placed_front_follows s 0 given placed (item_ahead (turn_node s) s.spelled s.ahead is has) ahead whole (closed is) follows
+item_follows : (more : ℕ) (s : SessionState) (n : Option node.Contents) (given : List ℕ) (placed : List Piece) → turn_node s ≡ n →
+    HasItem (turn_node s) s.spelled s.ahead → IsAhead s.ahead s.queue → IsWhole s.top (is_last s.ended (rest_of s)) → IsClosed s →
+    Follows s given placed → Follows (placed_item more n s) given (placed ++ turn_of n s.queue)
+item_follows more s (Some n) given placed is has ahead whole closed follows = placed_node_follows s n given placed is follows
+item_follows more s None given placed is has ahead whole closed follows =
+    placed_front_follows s more given placed (item_ahead (turn_node s) s.spelled s.ahead is has) ahead whole (closed is) follows
 
-pub placed_follows : (s : SessionState) (given : List ℕ) (placed : List Piece) → HasItem (turn_node s) s.spelled s.ahead → IsAhead s.ahead s.queue →
+pub placed_follows : (more : ℕ) (s : SessionState) (given : List ℕ) (placed : List Piece) → HasItem (turn_node s) s.spelled s.ahead → IsAhead s.ahead s.queue →
     IsWhole s.top (is_last s.ended (rest_of s)) → IsClosed s →
-    Follows s given placed → Follows (placed_item (turn_node s) s) given (placed ++ turn s)
-placed_follows s given placed has ahead whole closed follows = item_follows s (turn_node s) given placed refl has ahead whole closed follows
+    Follows s given placed → Follows (placed_item more (turn_node s) s) given (placed ++ turn s)
+placed_follows more s given placed has ahead whole closed follows = item_follows more s (turn_node s) given placed refl has ahead whole closed follows
 
--- ---- what an open container holds is another matter
+-- ---- what containers hold is another matter, and whether an item waits
 
-pub with_follows : (s : SessionState) (kind : Kind) (filled : Contents) (waits : Bool) (given : List ℕ) (placed : List Piece) →
-    Follows s given placed → Follows (record (with_open kind filled s) { waits = waits }) given placed
-with_follows s Leaf filled waits given placed follows = record { cut = follows.cut; built = follows.built; lined = follows.lined; counted = follows.counted }
-with_follows s Tree filled waits given placed follows = record { cut = follows.cut; built = follows.built; lined = follows.lined; counted = follows.counted }
-
-pub waiting_follows : (s : SessionState) (waits : Bool) (given : List ℕ) (placed : List Piece) →
-    Follows s given placed → Follows (record s { waits = waits }) given placed
-waiting_follows s waits given placed follows = record { cut = follows.cut; built = follows.built; lined = follows.lined; counted = follows.counted }
+pub held_follows : (s : SessionState) (leaves nodes : Contents) (aside : List Contents) (waits : Bool) (given : List ℕ) (placed : List Piece) →
+    Follows s given placed → Follows (record s { leaves = leaves; nodes = nodes; aside = aside; waits = waits }) given placed
+held_follows s leaves nodes aside waits given placed follows =
+    record { cut = follows.cut; built = follows.built; lined = follows.lined; counted = follows.counted }
 
 pub spelled_follows : (s : SessionState) (spelled : Option KindSegment) (given : List ℕ) (placed : List Piece) →
     Follows s given placed → Follows (record s { spelled = spelled }) given placed
@@ -350,12 +346,12 @@ pub turned_follows : (s : SessionState) (turn : Kind) (given : List ℕ) (placed
     Follows s given placed → Follows (record s { turn = turn }) given placed
 turned_follows s turn given placed follows = record { cut = follows.cut; built = follows.built; lined = follows.lined; counted = follows.counted }
 
-pub added_follows : (s : SessionState) (kind : Kind) (filled : Contents) (given : List ℕ) (placed : List Piece) → HasItem (turn_node s) s.spelled s.ahead →
+pub added_follows : (more : ℕ) (s : SessionState) (kind : Kind) (filled : Contents) (given : List ℕ) (placed : List Piece) → HasItem (turn_node s) s.spelled s.ahead →
     IsAhead s.ahead s.queue → IsWhole s.top (is_last s.ended (rest_of s)) → IsClosed s →
-    Follows s given placed → Follows (placed_item (turn_node s) (with_open kind filled s)) given (placed ++ turn s)
-added_follows s Leaf filled given placed has ahead whole closed follows =
-    item_follows (record s { leaves = filled }) (turn_node s) given placed refl has ahead whole closed
+    Follows s given placed → Follows (placed_item more (turn_node s) (with_open kind filled s)) given (placed ++ turn s)
+added_follows more s Leaf filled given placed has ahead whole closed follows =
+    item_follows more (record s { leaves = filled }) (turn_node s) given placed refl has ahead whole closed
     (record { cut = follows.cut; built = follows.built; lined = follows.lined; counted = follows.counted })
-added_follows s Tree filled given placed has ahead whole closed follows =
-    item_follows (record s { nodes = filled }) (turn_node s) given placed refl has ahead whole closed
+added_follows more s Tree filled given placed has ahead whole closed follows =
+    item_follows more (record s { nodes = filled }) (turn_node s) given placed refl has ahead whole closed
     (record { cut = follows.cut; built = follows.built; lined = follows.lined; counted = follows.counted })

@@ -1,5 +1,5 @@
 -- What is kept of a file that goes on from what was given, after some answers: however the bytes came between these, it is one.
-use Rattle.ingest_session.proofs.Prelude.{◌∙◌, ℕ, true, List, [], ◌∷◌, ◌++◌, refl, sym, subst, reverse, Kind, Segment, segments_of, Answer, due_in, IsKept, MayFollow, History, HasHistory, answered, SessionState, IsAnswerFor, IsSettled, told_by}
+use Rattle.ingest_session.proofs.Prelude.{◌∙◌, ℕ, true, List, [], ◌∷◌, ◌++◌, refl, sym, subst, reverse, Kind, Segment, segments_of, Answer, IsKept, MayFollow, History, HasHistory, answered, SessionState, IsAnswerFor, IsSettled, told_by}
 use Rattle.ingest_session.proofs.Answering.{known}
 use Rattle.ingest_session.proofs.Growing as growing
 use Rattle.ingest_session.proofs.Members.{IsIn, in_none}
@@ -53,7 +53,7 @@ module _ (s : SessionState) (h : History) (more : List ℕ) (has : HasHistory s 
   here_kept kind x is = then_kept s h here kind x is
 
   -- so it is after an answer more
-  module _ (answer : Answer) (settled : IsSettled s) (right : IsAnswerFor answer (due_in s)) where
+  module _ (answer : Answer) (settled : IsSettled s) (right : IsAnswerFor answer s) where
     pub after : Reaches true all (told_by answer s) (answered answer s h)
     after = told_reach true all s h answer has extends settled right here
 

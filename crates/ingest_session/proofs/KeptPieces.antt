@@ -1,5 +1,5 @@
 -- What a history has as kept: what an answer adds to it, and that all of it are pieces of the file.
-use Rattle.ingest_session.proofs.Prelude.{◌≡◌, ◌⊎◌, inl, inr, ◌∙◌, ℕ, List, [], ◌∷◌, ◌++◌, Some, refl, sym, ap, subst, append-nil, append_assoc, AllByRecursion, Kind, Leaf, Tree, KindSegment, Segment, Answer, node_segment, Data, Node, HasPieceOf, IsPieceOf, Due, Seal, HasTurn, due_in, item_kind, open_of, IsKept, MayFollow, History, HasHistory, Pushed, Ended, Moved, Asked, Told, answered, held_by, item_if, same_kind, sealed_for, turn_of, item_of, SessionState, turn_node, IsAnswerFor, IsSettled}
+use Rattle.ingest_session.proofs.Prelude.{◌≡◌, ◌⊎◌, inl, inr, ◌∙◌, ℕ, List, [], ◌∷◌, ◌++◌, Some, refl, sym, ap, subst, append-nil, append_assoc, AllByRecursion, Kind, Leaf, Tree, KindSegment, Segment, Answer, node_segment, Data, Node, HasPieceOf, IsPieceOf, Due, Seal, HasTurn, arith, due_in, gathered, item_kind, offered_in, segments_of_all, suc, take, zero, IsKept, MayFollow, History, HasHistory, Pushed, Ended, Moved, Asked, Told, answered, held_by, item_if, same_kind, sealed_for, turn_of, item_of, SessionState, turn_node, IsAnswerFor, IsSettled}
 use Rattle.std.proofs.Common.{if◌then◌else◌, Option, None}
 use Rattle.merkle_file.specs.Node as node
 use Rattle.actor_parts.specs.declared.step.Answer.TheVariants as answers
@@ -7,10 +7,11 @@ use Rattle.store_model.specs.Standing.{IsSegmentOf}
 use Rattle.ingest_session.specs.History.{Begun, sealed_by}
 use Rattle.ingest_session.specs.Moving.{IsItem}
 use Rattle.ingest_session.proofs.Facts.{opens_are_pieces, turns_are_pieces}
+use Rattle.ingest_session.proofs.Gathered.{left_parted, one_taken}
 use Rattle.ingest_session.proofs.Members.{IsIn, in_either, in_left, in_none, in_one, in_right, one_of}
 use Rattle.ingest_session.proofs.Settled.{settles_by, settling_keeps}
+use Rattle.ingest_session.proofs.Staying as staying
 use Rattle.ingest_session.proofs.Waiting.{claimed_has_turn}
-use Rattle.ingest_session.proofs.Replayed.{told_ended}
 
 -- ---- the item whose turn it is
 
@@ -66,31 +67,39 @@ module _ (s : SessionState) (h : History) (kind : Kind) (x : Segment) where
       same_lists : (a b : List Segment) → (a ++ []) ++ (b ++ []) ≡ a ++ b
       same_lists a b = ap (λ (l : List Segment). l ++ (b ++ [])) (append-nil a) ∙ ap (λ (l : List Segment). a ++ l) (append-nil b)
 
-  -- those of a container
-  pub kept_sealed : (id : ℕ) (mine : Kind) → due_in s ≡ Seal mine → IsKept (answered (answers.Sealed id) s h) kind x →
-      IsKept h kind x ⊎ ((kind ≡ mine) × IsIn x (open_of s mine).segments)
-  kept_sealed id mine due one = elim (in_either (h.held kind ++ []) (h.sealed kind ++ sealed_for kind (due_in s) s) x one) [
+  -- those of the containers that were sealed
+  pub kept_sealed : (id count : ℕ) (mine : Kind) → due_in s ≡ Seal mine → IsKept (answered (answers.Sealed id count) s h) kind x →
+      IsKept h kind x ⊎ ((kind ≡ mine) × IsIn x (segments_of_all (take count (offered_in s mine))))
+  kept_sealed id count mine due one = elim (in_either (h.held kind ++ []) (h.sealed kind ++ sealed_for kind count (due_in s) s) x one) [
     | inl first ↦ inl (in_left (h.held kind) (h.sealed kind) x (subst (IsIn x) (append-nil (h.held kind)) first))
-    | inr second ↦ elim (in_either (h.sealed kind) (sealed_for kind (due_in s) s) x second) [
+    | inr second ↦ elim (in_either (h.sealed kind) (sealed_for kind count (due_in s) s) x second) [
       | inl before ↦ inl (in_right (h.held kind) (h.sealed kind) x before)
-      | inr sealed ↦ inr (of_kind kind mine (subst (λ (d : Due). IsIn x (sealed_for kind d s)) due sealed))
+      | inr sealed ↦ inr (of_kind kind mine (subst (λ (d : Due). IsIn x (sealed_for kind count d s)) due sealed))
     ]
   ]
     where
-      of_kind : (k mine : Kind) → IsIn x (if same_kind k mine then (open_of s k).segments else []) → (k ≡ mine) × IsIn x (open_of s mine).segments
+      of_kind : (k mine : Kind) → IsIn x (if same_kind k mine then segments_of_all (take count (offered_in s k)) else [])
+          → (k ≡ mine) × IsIn x (segments_of_all (take count (offered_in s mine)))
       of_kind Leaf Leaf is = (refl, is)
       of_kind Tree Tree is = (refl, is)
       of_kind Leaf Tree is = absurd (in_none x is)
       of_kind Tree Leaf is = absurd (in_none x is)
 
-  pub sealed_kept : (id : ℕ) → due_in s ≡ Seal kind → IsIn x (open_of s kind).segments → IsKept (answered (answers.Sealed id) s h) kind x
-  sealed_kept id due is =
-      in_right (h.held kind ++ []) (h.sealed kind ++ sealed_for kind (due_in s) s) x
-      (in_right (h.sealed kind) (sealed_for kind (due_in s) s) x (subst (λ (d : Due). IsIn x (sealed_for kind d s)) (sym due) (of_kind kind is)))
+  pub sealed_kept : (id count : ℕ) → due_in s ≡ Seal kind → IsIn x (segments_of_all (take count (offered_in s kind)))
+      → IsKept (answered (answers.Sealed id count) s h) kind x
+  sealed_kept id count due is =
+      in_right (h.held kind ++ []) (h.sealed kind ++ sealed_for kind count (due_in s) s) x
+      (in_right (h.sealed kind) (sealed_for kind count (due_in s) s) x (subst (λ (d : Due). IsIn x (sealed_for kind count d s)) (sym due) (of_kind kind is)))
     where
-      of_kind : (k : Kind) → IsIn x (open_of s k).segments → IsIn x (if same_kind k k then (open_of s k).segments else [])
+      of_kind : (k : Kind) → IsIn x (segments_of_all (take count (offered_in s k))) → IsIn x (if same_kind k k then segments_of_all (take count (offered_in s k)) else [])
       of_kind Leaf is = is
       of_kind Tree is = is
+
+-- what a seal sealed was still to be sealed
+pub sealed_in : (s : SessionState) (count : ℕ) (mine : Kind) (x : Segment) → IsIn x (segments_of_all (take count (offered_in s mine))) → IsIn x (gathered s mine).segments
+sealed_in s count Leaf x there = subst (IsIn x) (left_parted count s) (in_left (segments_of_all (take count s.aside)) _ x there)
+sealed_in s zero Tree x there = absurd (in_none x there)
+sealed_in s (suc n) Tree x there = subst (IsIn x) (one_taken (suc n) s.nodes (omega arith)) there
 
 -- ---- pieces
 
@@ -106,7 +115,7 @@ item_piece file None (x ∷ xs) turn all = (Data x, all.0, refl)
 
 -- However the file goes on, what a history has as kept are pieces of it.
 module _ (kind : Kind) (x : Segment) where
-  by_answer : (s : SessionState) (answer : Answer) (h : History) (more : List ℕ) → HasHistory s h → MayFollow more s → IsSettled s → IsAnswerFor answer (due_in s) →
+  by_answer : (s : SessionState) (answer : Answer) (h : History) (more : List ℕ) → HasHistory s h → MayFollow more s → IsSettled s → IsAnswerFor answer s →
       (IsKept h kind x → HasPieceOf (h.given ++ more) (of_kind kind x))
       → IsKept (answered answer s h) kind x → HasPieceOf (h.given ++ more) (of_kind kind x)
   by_answer s answers.Held h more has may settled due before is = elim (kept_held s h kind x is) [
@@ -118,11 +127,12 @@ module _ (kind : Kind) (x : Segment) where
         (item_piece (h.given ++ more) (turn_node s) s.queue (claimed_has_turn s settled due) (turns_are_pieces s h more has may)))
   ]
   by_answer s answers.Absent h more has may settled due before is = before (kept_absent s h kind x is)
-  by_answer s (answers.Sealed id) h more has may settled due before is = elim (kept_sealed s h kind x id due.0 due.1 is) [
+  by_answer s (answers.Sealed id count) h more has may settled due before is = elim (kept_sealed s h kind x id count due.0 due.1 is) [
     | inl was ↦ before was
     | inr now ↦
         subst (λ (k : Kind). HasPieceOf (h.given ++ more) (of_kind k x)) (sym now.0)
-        (one_of (λ y. HasPieceOf (h.given ++ more) (of_kind due.0 y)) (open_of s due.0).segments x (opens_are_pieces s h more has may due.0) now.1)
+        (one_of (λ y. HasPieceOf (h.given ++ more) (of_kind due.0 y)) (gathered s due.0).segments x (opens_are_pieces s h more has may due.0)
+        (sealed_in s count due.0 x now.1))
   ]
   by_answer s answer h more has may settled due before is = absurd due
 
@@ -135,7 +145,7 @@ module _ (kind : Kind) (x : Segment) where
   kept_pieces t _ more (Moved s _ h has sound step) may is = kept_pieces s h more has (λ on. may ((settling_keeps s t (settles_by sound step)).ended ∙ on)) is
   kept_pieces t h more (Asked s _ _ has _ same) may is = kept_pieces s h more has (λ on. may (ap (λ (u : SessionState). u.ended) same ∙ on)) is
   kept_pieces _ _ more (Told s answer h has _ settled _ fits some) may is =
-      let before : MayFollow more s = λ on. may (told_ended answer s fits ∙ on) in
+      let before : MayFollow more s = λ on. may ((staying.told answer s).ended ∙ on) in
       by_answer s answer h more has before settled fits (λ was. kept_pieces s h more has before was) is
 
 -- ---- what pieces are

@@ -7,10 +7,13 @@ pub mod Beginning
 pub mod Uncut
 pub mod Taking
 pub mod Takes
+pub mod Staying
+pub mod Puts
 pub mod Settled
 pub mod Fitting
 pub mod Advancing
 pub mod AtEnd
+pub mod Gathered
 pub mod SealsSome
 pub mod Working
 pub mod Told
@@ -35,3 +38,4 @@ pub mod KeptOnes
 pub mod KeptPieces
 pub mod KeptOn
 pub mod OpenOn
+pub mod Offered

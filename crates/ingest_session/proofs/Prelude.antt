@@ -19,18 +19,18 @@ pub use Rattle.disk_format.specs.declared.numbers.TheConstants.{LEAST_SEGMENT, M
 pub use Rattle.ingest_session.specs.Calls.{IsEnding, IsTaking, KeepsItem}
 pub use Rattle.ingest_session.specs.Child.{has_child_of}
 pub use Rattle.ingest_session.specs.Cuts.{CutsFew}
-pub use Rattle.ingest_session.specs.Due.{HasTurn, due_in, due_node, end_due, is_node_due, item_due, item_is_there, item_kind, needs_no_step, node_due, open_of, queue_due, queue_is_there, turn_for, turn_in}
+pub use Rattle.ingest_session.specs.Due.{HasTurn, due_in, due_node, end_due, gathered, is_node_due, item_due, item_is_there, item_kind, needs_no_step, node_due, offered_in, open_of, puts_aside, queue_due, queue_is_there, seals_data, segments_of_all, turn_for, turn_in}
 pub use Rattle.ingest_session.specs.Facts.{IsKept, IsKeptChild, MayFollow, data_in, nodes_in}
 pub use Rattle.ingest_session.specs.Filling.{with_segment}
 pub use Rattle.ingest_session.specs.Finished.{first_of, without_nodes}
-pub use Rattle.ingest_session.specs.History.{Asked, Ended, HasHistory, History, IsBegun, Moved, Pushed, SealsSome, Told, answered, held_by, item_if, moved, placed_after_seal, placed_by, placed_if, same_kind, sealed_for, turn, turn_of}
+pub use Rattle.ingest_session.specs.History.{Asked, Ended, HasHistory, History, IsBegun, Moved, Pushed, SealsSome, Told, answered, held_by, item_if, moved, placed_after_seal, placed_by, placed_if, placed_resumed, same_kind, sealed_for, turn, turn_of, unsealed, waiting}
 pub use Rattle.ingest_session.specs.Items.{fits, item_of}
 pub use Rattle.ingest_session.specs.Moving.{BuildsFront, Finishes, IsAdvanced, IsClosing, front_of}
-pub use Rattle.ingest_session.specs.Settling.{Advanced, Closed, PlacedFront, PlacedNode, SettleStep, Settles, Spelled, Then, Turned}
+pub use Rattle.ingest_session.specs.Settling.{Advanced, Closed, PlacedFront, PlacedNode, SetAside, SettleStep, Settles, Spelled, Then, Turned}
 pub use Rattle.ingest_session.specs.Sound.{IsSession}
 pub use Rattle.ingest_session.specs.State.{AreLong, HasItem, IsAhead, IsClosed, IsSized, IsSpelled, IsWhole, SessionState, is_last, leaf_segment, node_in_turn, rest_after, rest_of, turn_node}
 pub use Rattle.ingest_session.specs.Stream.{IsCutInto, IsUncut}
-pub use Rattle.ingest_session.specs.Told.{IsAnswerFor, IsSettled, absent_item, added_item, emptied, placed_front, placed_item, placed_node, sealed, told_by, with_open}
+pub use Rattle.ingest_session.specs.Told.{IsAnswerFor, IsPlaced, IsSettled, absent_item, added_item, emptied, placed_front, placed_item, placed_node, put_aside, resumed, sealed_by, set_aside, told_by, with_open}
 pub use Rattle.ingest_session.specs.Work.{to_do}
 pub use Rattle.ingest_session.specs.contracts.session.Session.{the_view}
 pub use Rattle.ingest_session.specs.declared.due.Due.{Due}

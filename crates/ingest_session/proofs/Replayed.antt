@@ -1,18 +1,19 @@
 -- What answers make of a session, they make of the session over a whole file.
-use Rattle.ingest_session.proofs.Prelude.{◌≡◌, ◌≤◌, ◌⊎◌, inl, inr, ◌∙◌, ℕ, Bool, true, false, List, [], ◌∷◌, ◌++◌, Some, IsSome, length, drop, map, refl, sym, ap, subst, arith, append-nil, append_assoc, length-append, reverse, drop-append_seam, and_parts, length-map, Kind, Leaf, Tree, Contents, Segment, Child, Top, Progress, ByCount, room_of, itself, nodes_of, of_segment, tree_of, nodes_come_in_order, Answer, Held, Absent, Sealed, Piece, Due, Seal, Nothing, HasTurn, due_in, due_node, end_due, item_due, item_is_there, item_kind, needs_no_step, queue_due, queue_is_there, turn_in, data_in, nodes_in, History, HasHistory, IsBegun, Pushed, Ended, Moved, Asked, Told, answered, held_by, moved, placed_by, turn, turn_of, fits, SettleStep, Turned, Spelled, Advanced, Closed, PlacedNode, PlacedFront, IsSession, SessionState, IsWhole, is_last, node_in_turn, turn_node, IsCutInto, IsAnswerFor, IsSettled, absent_item, added_item, emptied, placed_item, told_by, with_open}
+use Rattle.ingest_session.proofs.Prelude.{◌≡◌, ◌≤◌, ◌⊎◌, inl, inr, ◌∙◌, ℕ, Bool, true, false, List, [], ◌∷◌, ◌++◌, Some, IsSome, length, drop, map, refl, sym, ap, subst, arith, append-nil, append_assoc, length-append, reverse, drop-append_seam, and_parts, length-map, Kind, Leaf, Tree, Contents, Segment, Child, Top, Progress, ByCount, room_of, itself, nodes_of, of_segment, tree_of, nodes_come_in_order, Answer, Held, Absent, Sealed, Piece, Due, Seal, Nothing, HasTurn, due_in, due_node, end_due, item_due, item_is_there, item_kind, needs_no_step, puts_aside, queue_due, queue_is_there, turn_in, data_in, nodes_in, History, HasHistory, IsBegun, Pushed, Ended, Moved, Asked, Told, answered, held_by, moved, placed_resumed, turn, turn_of, SettleStep, Turned, Spelled, Advanced, Closed, PlacedNode, PlacedFront, SetAside, IsSession, SessionState, IsWhole, is_last, node_in_turn, turn_node, IsCutInto, IsAnswerFor, IsSettled, put_aside, set_aside, told_by}
 use Rattle.std.proofs.Common.{not, if◌then◌else◌, Option, None}
 use Rattle.std.proofs.lemmas.List.{reverse-append}
 use Rattle.merkle_file.specs.Node as node
 use Rattle.ingest_session.specs.History.{Begun, absent_by, sealed_by}
-use Rattle.ingest_session.specs.Told as told
 use Rattle.ingest_session.proofs.Agreeing.{Agrees, like}
 use Rattle.ingest_session.proofs.Answering.{known}
 use Rattle.ingest_session.proofs.CutOnce.{cut_alike}
 use Rattle.ingest_session.proofs.Following.{AreFinished, IsBuilt, begun}
 use Rattle.ingest_session.proofs.Growing.{few_pushed}
-use Rattle.ingest_session.proofs.Replaying.{Core, IsLike, absent_alike_by, core_of, finished_at, held_alike, places_alike_by, sealed_alike, session_at, told_alike, turn_at, unturned, waiting_turn, any_waits}
-use Rattle.ingest_session.proofs.Runs.{Came, IsSame, Point, Skips, Stays, skip_more, start, told_at}
+use Rattle.ingest_session.proofs.Puts.{puts_seal}
+use Rattle.ingest_session.proofs.Replaying.{Core, IsLike, absent_alike_by, any_waits, aside_alike, aside_places_alike, core_of, finished_at, held_alike, places_alike_by, puts_alike, sealed_alike, session_at, told_alike, turn_at, unturned, waiting_turn}
+use Rattle.ingest_session.proofs.Runs.{Apart, Came, IsSame, Point, Skips, Spot, Stays, Then, aside_on, place_on, skip_on, start, told_at}
 use Rattle.ingest_session.proofs.Settled.{settles_by, settling_keeps}
+use Rattle.ingest_session.proofs.Staying as staying
 use Rattle.ingest_session.proofs.Waiting.{claimed_has_turn, on_and_off, session_of, waiting_has_turn}
 
 -- ---- the session over a whole file agrees with one that is in it
@@ -113,6 +114,7 @@ module _ (ended : Bool) (segments : List (List ℕ)) (s : SessionState) (h : His
       record {
         leaves = refl;
         nodes = refl;
+        aside = refl;
         waits = any_is s.waits s.turn;
         more = line.0;
         line = line.1;
@@ -178,60 +180,41 @@ seals_at_end s false None [] kind off queue_is none is =
 seals_at_end s false None (x ∷ xs) kind off queue_is none is = absurd (cc)
 
 -- the item that is due has its turn
-settled_step : (s : SessionState) → IsSettled s → (waits : Bool) → s.waits ≡ waits → (due : Due) → due_in s ≡ due →
+turned_step : (s : SessionState) → (s.waits ≡ false → s.turn ≡ turn_in s) → (waits : Bool) → s.waits ≡ waits → (due : Due) → due_in s ≡ due →
     (if waits then Seal (item_kind (turn_node s)) else item_due s (turn_node s)) ≡ due
-settled_step s settled true on due is = sym (ap (λ (w : Bool). if w then Seal (item_kind (turn_node s)) else item_due s (due_node s)) on) ∙ is
-settled_step s settled false off due is =
-    ap (λ (k : Kind). item_due s (node_in_turn k s.line)) (settled.turn off)
+turned_step s right true on due is = sym (ap (λ (w : Bool). if w then Seal (item_kind (turn_node s)) else item_due s (due_node s)) on) ∙ is
+turned_step s right false off due is =
+    ap (λ (k : Kind). item_due s (node_in_turn k s.line)) (right off)
     ∙ sym (ap (λ (w : Bool). if w then Seal (item_kind (turn_node s)) else item_due s (due_node s)) off)
     ∙ is
 
--- where no item has its turn, an answer is told only after the end
-answered_at_end : (s : SessionState) (answer : Answer) → IsSession s → IsSettled s → IsAnswerFor answer (due_in s) → turn s ≡ [] → s.ended ≡ true
-answered_at_end s Held is settled right none = absurd (no_turn (turn_node s) s.queue none (claimed_has_turn s settled right))
-answered_at_end s Absent is settled right none = absurd (no_turn (turn_node s) s.queue none (claimed_has_turn s settled right))
-answered_at_end s (Sealed id) is settled right none =
-    elim (seals_at_end s s.waits (turn_node s) s.queue right.0 refl refl none (settled_step s settled s.waits refl (Seal right.0) right.1)) [
+-- where no item has its turn, a seal is due only after the end
+sealed_at_end : (s : SessionState) (kind : Kind) → IsSession s → (s.waits ≡ false → s.turn ≡ turn_in s) → due_in s ≡ Seal kind → turn s ≡ [] → s.ended ≡ true
+sealed_at_end s kind is right due none =
+    elim (seals_at_end s s.waits (turn_node s) s.queue kind refl refl none (turned_step s right s.waits refl (Seal kind) due)) [
       | inl on ↦ absurd (no_turn (turn_node s) s.queue none (waiting_has_turn s is on))
       | inr ended ↦ ended
     ]
+
+-- and so is an answer told
+answered_at_end : (s : SessionState) (answer : Answer) → IsSession s → IsSettled s → IsAnswerFor answer s → turn s ≡ [] → s.ended ≡ true
+answered_at_end s Held is settled right none = absurd (no_turn (turn_node s) s.queue none (claimed_has_turn s settled right))
+answered_at_end s Absent is settled right none = absurd (no_turn (turn_node s) s.queue none (claimed_has_turn s settled right))
+answered_at_end s (Sealed id count) is settled right none = sealed_at_end s right.0 is settled.placed.turn right.1 none
 answered_at_end s other is settled right none = absurd right
-
--- ---- an answer leaves the end as it is
-
-placed_ended : (n : Option node.Contents) (s : SessionState) → (placed_item n s).ended ≡ s.ended
-placed_ended None s = refl
-placed_ended (Some n) s = refl
-
-with_ended : (kind : Kind) (c : Contents) (s : SessionState) → (with_open kind c s).ended ≡ s.ended
-with_ended Leaf c s = refl
-with_ended Tree c s = refl
-
-absent_ended : (s : SessionState) (fit : Bool) → (if fit then placed_item (turn_node s) (added_item s) else record s { waits = true }).ended ≡ s.ended
-absent_ended s true = placed_ended (turn_node s) (added_item s) ∙ with_ended (item_kind (turn_node s)) _ s
-absent_ended s false = refl
-
-sealed_ended : (s : SessionState) (kind : Kind) (waits : Bool) →
-    (if waits then absent_item (record (emptied kind s) { waits = false }) else emptied kind s).ended ≡ s.ended
-sealed_ended s kind true =
-    let e : SessionState = record (emptied kind s) { waits = false } in absent_ended e (fits e) ∙ with_ended kind _ s
-sealed_ended s kind false = with_ended kind _ s
-
-pub told_ended : (answer : Answer) (s : SessionState) → IsAnswerFor answer (due_in s) → (told_by answer s).ended ≡ s.ended
-told_ended Held s is = placed_ended (turn_node s) s
-told_ended Absent s is = absent_ended s (fits s)
-told_ended (Sealed id) s is = subst (λ (due : Due). (told.sealed_by due s).ended ≡ s.ended) (sym is.1) (sealed_ended s is.0 s.waits)
-told_ended other s is = absurd is
 
 -- ---- all calls
 
 module _ (ended : Bool) (segments : List (List ℕ)) where
-  -- The answers come to a point from which items that need no step were put in their place.
+  -- how far a session came
+  abbrev pub spot_of : SessionState → History → Spot
+  spot_of s h = record { core = core_of s; placed = h.placed }
+
+  -- The answers come to a point from which items that need no step were put in their place, and containers were set aside.
   pub record Reaches (s : SessionState) (h : History) : Type 0 where
     pub from : Point
     pub came : Came ended segments (reverse h.answers) from
-    pub core : from.core ≡ core_of s
-    pub skips : Skips ended segments (core_of s) from.placed h.placed
+    pub skips : Skips ended segments from.spot (spot_of s h)
     pub held : (kind : Kind) → h.held kind ≡ from.held kind
     pub absent : (kind : Kind) → h.absent kind ≡ from.absent kind
     pub sealed : (kind : Kind) → h.sealed kind ≡ from.sealed kind
@@ -242,23 +225,40 @@ module _ (ended : Bool) (segments : List (List ℕ)) where
 
   begun_core : (s : SessionState) → IsSession s → IsBegun s → core_of s ≡ start
   begun_core s is begun =
-      ap (λ (w : Bool). record { leaves = s.leaves; nodes = s.nodes; waits = waiting_turn w s.turn }) begun.waits
-      ∙ ap (λ (c : Contents). record { leaves = c; nodes = s.nodes; waits = None }) (contents_are s.leaves Leaf is.data_kind begun.leaves)
-      ∙ ap (λ (c : Contents). record { leaves = record { kind = Leaf; segments = [] }; nodes = c; waits = None })
+      ap (λ (w : Bool). record { leaves = s.leaves; nodes = s.nodes; aside = s.aside; waits = waiting_turn w s.turn }) begun.waits
+      ∙ ap (λ (cs : List Contents). record { leaves = s.leaves; nodes = s.nodes; aside = cs; waits = None }) begun.aside
+      ∙ ap (λ (c : Contents). record { leaves = c; nodes = s.nodes; aside = []; waits = None }) (contents_are s.leaves Leaf is.data_kind begun.leaves)
+      ∙ ap (λ (c : Contents). record { leaves = record { kind = Leaf; segments = [] }; nodes = c; aside = []; waits = None })
       (contents_are s.nodes Tree is.tree_kind begun.nodes)
 
   -- a call that puts nothing in its place
   same_reach : (s t : SessionState) (h g : History) → core_of t ≡ core_of s → g.placed ≡ h.placed → g.answers ≡ h.answers →
-      ((kind : Kind) → g.held kind ≡ h.held kind) → ((kind : Kind) → g.absent kind ≡ h.absent kind) → ((kind : Kind) → g.sealed kind ≡ h.sealed kind) → Reaches s h → Reaches t g
+      ((kind : Kind) → g.held kind ≡ h.held kind) → ((kind : Kind) → g.absent kind ≡ h.absent kind) →
+      ((kind : Kind) → g.sealed kind ≡ h.sealed kind) → Reaches s h → Reaches t g
   same_reach s t h g core placed answers held absent sealed before = record {
     from = before.from;
     came = subst (λ (told : List Answer). Came ended segments (reverse told) before.from) (sym answers) before.came;
-    core = before.core ∙ sym core;
-    skips = subst (λ (c : Core). Skips ended segments c before.from.placed g.placed) (sym core)
-        (subst (λ (ps : List Piece). Skips ended segments (core_of s) before.from.placed ps) (sym placed) before.skips);
+    skips = subst (Skips ended segments before.from.spot) (sym (same_spot s t h g core placed)) before.skips;
     held = λ kind. held kind ∙ before.held kind;
     absent = λ kind. absent kind ∙ before.absent kind;
     sealed = λ kind. sealed kind ∙ before.sealed kind;
+  }
+    where
+      same_spot : (s t : SessionState) (h g : History) → core_of t ≡ core_of s → g.placed ≡ h.placed → spot_of t g ≡ spot_of s h
+      same_spot s t h g core placed =
+          ap (λ (c : Core). let x : Spot = record { core = c; placed = g.placed } in x) core
+          ∙ ap (λ (ps : List Piece). let x : Spot = record { core = core_of s; placed = ps } in x) placed
+
+  -- a move, to what follows in the session over a whole file
+  moved_on : (s t : SessionState) (h : History) (more : List Piece) → Skips ended segments (spot_of s h) (spot_of t (record h { placed = h.placed ++ more }))
+      → Reaches s h → Reaches t (record h { placed = h.placed ++ more })
+  moved_on s t h more skips before = record {
+    from = before.from;
+    came = before.came;
+    skips = skip_on ended segments before.from.spot (spot_of s h) (spot_of t (record h { placed = h.placed ++ more })) before.skips skips;
+    held = before.held;
+    absent = before.absent;
+    sealed = before.sealed;
   }
 
   there_turn : (s : SessionState) (n : Option node.Contents) (queue : List (List ℕ)) → turn_node s ≡ n → s.queue ≡ queue → needs_no_step s ≡ true →
@@ -273,63 +273,67 @@ module _ (ended : Bool) (segments : List (List ℕ)) where
       → core_of t ≡ core_of s → Reaches s h → Reaches t (record h { placed = h.placed ++ turn s })
   there_reach s t h has extends there right core before =
       let alike = like_over ended segments s h has extends (λ off. right) (λ none. absurd (there_turn s (turn_node s) s.queue refl refl there none)) in
-      record {
-        from = before.from;
-        came = before.came;
-        core = before.core ∙ sym core;
-        skips = subst (λ (c : Core). Skips ended segments c before.from.placed (h.placed ++ turn s)) (sym core)
-            (subst (λ (ps : List Piece). Skips ended segments (core_of s) before.from.placed (h.placed ++ ps)) alike.pieces
-            (skip_more ended segments (core_of s) before.from.placed h.placed before.skips (alike.there ∙ there)));
-        held = before.held;
-        absent = before.absent;
-        sealed = before.sealed;
-      }
+      let on : place_on ended segments (spot_of s h) ≡ spot_of t (record h { placed = h.placed ++ turn s }) =
+      ap (λ (ps : List Piece). let x : Spot = record { core = core_of s; placed = h.placed ++ ps } in x) alike.pieces
+      ∙ ap (λ (c : Core). let x : Spot = record { core = c; placed = h.placed ++ turn s } in x) (sym core) in
+      moved_on s t h (turn s) (Then (spot_of s h) _ (alike.there ∙ there) (subst (Skips ended segments (place_on ended segments (spot_of s h))) on (Stays _))) before
+
+  -- a container is set aside
+  aside_reach : (s t : SessionState) (h : History) → HasHistory s h → Extends ended segments s h → needs_no_step s ≡ false → (s.waits ≡ false → s.turn ≡ turn_in s)
+      → puts_aside s ≡ true → t ≡ set_aside s → Reaches s h → Reaches t (record h { placed = h.placed ++ placed_resumed (put_aside s) })
+  aside_reach s t h has extends some right puts is before =
+      let at_end : turn s ≡ [] → ((over ended segments s h has extends).ended ≡ s.ended) × ((over ended segments s h has extends).queue ≡ s.queue) = λ none.
+      (let end = sealed_at_end s Leaf (session_of s h has) right (puts_seal s puts) none in
+      let same = same_queue ended segments s h has extends end in (same.0 ∙ sym end, same.1)) in
+      let alike = like_over ended segments s h has extends right at_end in
+      let on : aside_on ended segments (spot_of s h) ≡ spot_of t (record h { placed = h.placed ++ placed_resumed (put_aside s) }) =
+      ap (λ (c : Core). let x : Spot = record { core = c; placed = (aside_on ended segments (spot_of s h)).placed } in x)
+      (aside_alike s (over ended segments s h has extends) alike ∙ sym (ap core_of is))
+      ∙ ap (λ (ps : List Piece). let x : Spot = record { core = core_of t; placed = h.placed ++ ps } in x)
+      (aside_places_alike s (over ended segments s h has extends) alike) in
+      moved_on s t h (placed_resumed (put_aside s))
+      (Apart (spot_of s h) _ (alike.there ∙ some) (puts_alike s (over ended segments s h has extends) alike ∙ puts)
+      (subst (Skips ended segments (aside_on ended segments (spot_of s h))) on (Stays _))) before
 
   -- an answer, told to a session that is settled
-  pub told_reach : (s : SessionState) (h : History) (answer : Answer) → HasHistory s h → Extends ended segments s h → IsSettled s → IsAnswerFor answer (due_in s)
+  pub told_reach : (s : SessionState) (h : History) (answer : Answer) → HasHistory s h → Extends ended segments s h → IsSettled s → IsAnswerFor answer s
       → Reaches s h → Reaches (told_by answer s) (answered answer s h)
   told_reach s h answer has extends settled right before =
       let at_end : turn s ≡ [] → ((over ended segments s h has extends).ended ≡ s.ended) × ((over ended segments s h has extends).queue ≡ s.queue) = λ none.
       (let end = answered_at_end s answer (session_of s h has) settled right none in
       let same = same_queue ended segments s h has extends end in (same.0 ∙ sym end, same.1)) in
-      let alike = like_over ended segments s h has extends settled.turn at_end in
-      let here : session_at ended segments before.from.core h.placed ≡ session_at ended segments (core_of s) h.placed =
-      ap (λ (c : Core). session_at ended segments c h.placed) before.core in
+      let there = over ended segments s h has extends in
+      let alike = like_over ended segments s h has extends settled.placed.turn at_end in
       let new = answered answer s h in
-      let point : Point =
-      record { core = core_of (told_by answer s); placed = new.placed; held = new.held; absent = new.absent; sealed = new.sealed } in
-      let same : IsSame point (told_at ended segments answer (record before.from { placed = h.placed })) =
+      let point : Point = record { spot = spot_of (told_by answer s) new; held = new.held; absent = new.absent; sealed = new.sealed } in
+      let same : IsSame point (told_at ended segments answer (record before.from { spot = spot_of s h })) =
       record {
-        core = sym (told_alike s (session_at ended segments (core_of s) h.placed) answer alike right)
-            ∙ sym (ap (λ (u : SessionState). core_of (told_by answer u)) here);
-        placed = ap (λ (ps : List Piece). h.placed ++ ps) (sym (places_alike_by s (session_at ended segments (core_of s) h.placed) answer alike right))
-            ∙ sym (ap (λ (u : SessionState). h.placed ++ placed_by answer u) here);
+        spot =
+            ap (λ (c : Core). let x : Spot = record { core = c; placed = new.placed } in x) (sym (told_alike s there answer alike right))
+            ∙ ap (λ (ps : List Piece). let x : Spot = record { core = core_of (told_by answer there); placed = h.placed ++ ps } in x)
+            (sym (places_alike_by s there answer alike right));
         held = λ kind.
             ap (λ (ss : List Segment). ss ++ held_by kind answer s) (before.held kind)
-            ∙ ap (λ (ss : List Segment). before.from.held kind ++ ss) (sym (held_alike kind s (session_at ended segments (core_of s) h.placed) answer alike))
-            ∙ sym (ap (λ (u : SessionState). before.from.held kind ++ held_by kind answer u) here);
+            ∙ ap (λ (ss : List Segment). before.from.held kind ++ ss) (sym (held_alike kind s there answer alike));
         absent = λ kind.
             ap (λ (ss : List Segment). ss ++ absent_by kind answer s) (before.absent kind)
-            ∙ ap (λ (ss : List Segment). before.from.absent kind ++ ss) (sym (absent_alike_by kind s (session_at ended segments (core_of s) h.placed) answer alike))
-            ∙ sym (ap (λ (u : SessionState). before.from.absent kind ++ absent_by kind answer u) here);
+            ∙ ap (λ (ss : List Segment). before.from.absent kind ++ ss) (sym (absent_alike_by kind s there answer alike));
         sealed = λ kind.
             ap (λ (ss : List Segment). ss ++ sealed_by kind answer s) (before.sealed kind)
-            ∙ ap (λ (ss : List Segment). before.from.sealed kind ++ ss) (sym (sealed_alike kind s (session_at ended segments (core_of s) h.placed) answer alike))
-            ∙ sym (ap (λ (u : SessionState). before.from.sealed kind ++ sealed_by kind answer u) here);
+            ∙ ap (λ (ss : List Segment). before.from.sealed kind ++ ss) (sym (sealed_alike kind s there answer alike));
       } in
       let came : Came ended segments (answer ∷ reverse h.answers) point = (
         before.from,
-        h.placed,
+        spot_of s h,
         before.came,
-        subst (λ (c : Core). Skips ended segments c before.from.placed h.placed) (sym before.core) before.skips,
-        ap needs_no_step here ∙ alike.there ∙ settled.none,
+        before.skips,
+        record { none = alike.there ∙ settled.placed.none; aside = puts_alike s there alike ∙ settled.aside },
         same,
       ) in
       record {
         from = point;
         came = subst (λ (told : List Answer). Came ended segments told point) (sym (reverse-append h.answers (answer ∷ []))) came;
-        core = refl;
-        skips = Stays new.placed;
+        skips = Stays point.spot;
         held = λ kind. refl;
         absent = λ kind. refl;
         sealed = λ kind. refl;
@@ -344,8 +348,8 @@ module _ (ended : Bool) (segments : List (List ℕ)) where
   moved_reach s t h (Turned _ _ off is) has extends before =
       let core : core_of t ≡ core_of s =
       ap core_of is
-      ∙ ap (λ (w : Bool). record { leaves = s.leaves; nodes = s.nodes; waits = waiting_turn w (turn_in s) }) off
-      ∙ sym (ap (λ (w : Bool). record { leaves = s.leaves; nodes = s.nodes; waits = waiting_turn w s.turn }) off) in
+      ∙ ap (λ (w : Bool). record { leaves = s.leaves; nodes = s.nodes; aside = s.aside; waits = waiting_turn w (turn_in s) }) off
+      ∙ sym (ap (λ (w : Bool). record { leaves = s.leaves; nodes = s.nodes; aside = s.aside; waits = waiting_turn w s.turn }) off) in
       nothing_more t h (same_reach s t h h core refl refl (λ kind. refl) (λ kind. refl) (λ kind. refl) before)
   moved_reach s t h (Spelled _ _ is) has extends before =
       nothing_more t h (same_reach s t h h (ap core_of is) refl refl (λ kind. refl) (λ kind. refl) (λ kind. refl) before)
@@ -355,13 +359,18 @@ module _ (ended : Bool) (segments : List (List ℕ)) where
       nothing_more t h (same_reach s t h h (ap core_of is.others) refl refl (λ kind. refl) (λ kind. refl) (λ kind. refl) before)
   moved_reach s t h (PlacedNode _ _ there right some is) has extends before = there_reach s t h has extends there right (ap core_of is) before
   moved_reach s t h (PlacedFront _ _ there right empty is) has extends before = there_reach s t h has extends there right (ap core_of is) before
+  moved_reach s t h (SetAside _ _ sound some right puts is) has extends before = aside_reach s t h has extends some right puts is before
 
   pub reaches : (s : SessionState) (h : History) → HasHistory s h → Extends ended segments s h → Reaches s h
   reaches s _ (Begun _ is begun) extends = record {
-    from = record { core = core_of s; placed = []; held = λ kind. []; absent = λ kind. []; sealed = λ kind. [] };
-    came = record { core = begun_core s is begun; placed = refl; held = λ kind. refl; absent = λ kind. refl; sealed = λ kind. refl };
-    core = refl;
-    skips = Stays [];
+    from = record { spot = record { core = core_of s; placed = [] }; held = λ kind. []; absent = λ kind. []; sealed = λ kind. [] };
+    came = record {
+      spot = ap (λ (c : Core). let x : Spot = record { core = c; placed = [] } in x) (begun_core s is begun);
+      held = λ kind. refl;
+      absent = λ kind. refl;
+      sealed = λ kind. refl;
+    };
+    skips = Stays (record { core = core_of s; placed = [] });
     held = λ kind. refl;
     absent = λ kind. refl;
     sealed = λ kind. refl;
@@ -381,5 +390,5 @@ module _ (ended : Bool) (segments : List (List ℕ)) where
       moved_reach s t h step has before (reaches s h has before)
   reaches _ _ (Told s answer h has after settled asked is some) extends =
       let before = extends_same ended segments s (told_by answer s) h (answered answer s h) has (Told s answer h has after settled asked is some) refl
-      (sym (told_ended answer s is)) extends in
+      (sym (staying.told answer s).ended) extends in
       told_reach s h answer has before settled is (reaches s h has before)

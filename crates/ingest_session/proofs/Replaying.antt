@@ -1,6 +1,8 @@
 -- A session over a whole file, and what an answer does to it.
-use Rattle.ingest_session.proofs.Prelude.{◌≡◌, ◌∙◌, ℕ, Bool, true, false, List, [], ◌∷◌, Some, length, drop, map, refl, sym, ap, Kind, Leaf, Tree, Contents, Segment, has_room, empty_hand, nodes_in_rows, open_over, ByCount, itself, nodes_of, of_segment, tree_of, Answer, Held, Absent, Sealed, Piece, Due, Seal, due_in, item_kind, needs_no_step, turn_in, data_in, nodes_in, with_segment, held_by, placed_after_seal, placed_by, placed_if, same_kind, sealed_for, turn, fits, item_of, SessionState, is_last, turn_node, IsAnswerFor, absent_item, added_item, emptied, placed_item, sealed, told_by, with_open}
-use Rattle.std.proofs.Common.{if◌then◌else◌, Option, None}
+use Rattle.ingest_session.proofs.Prelude.{◌≡◌, ◌∙◌, ℕ, Bool, true, false, List, [], ◌∷◌, Some, length, take, drop, ◌++◌, map, refl, sym, ap, Kind, Leaf, Tree, Contents, Segment, has_room, empty_hand, nodes_in_rows, open_over, ByCount, itself, nodes_of, of_segment, tree_of, Answer, Held, Absent, Sealed, Piece, Due, Seal, due_in, item_kind, needs_no_step, offered_in, puts_aside, seals_data, segments_of_all, turn_in, data_in, nodes_in, with_segment, held_by, placed_after_seal, placed_by, placed_if, placed_resumed, same_kind, sealed_for, turn, fits, item_of, SessionState, is_last, turn_node, IsAnswerFor, absent_item, added_item, emptied, placed_item, put_aside, resumed, set_aside, told_by, with_open}
+use Rattle.std.proofs.Common.{◌==◌, if◌then◌else◌, not, Option, None}
+use Rattle.std.specs.Prelude.{◌&&◌, nat_lt}
+use Rattle.actor_parts.specs.declared.step.TheConstants.{MOST_TOGETHER}
 use Rattle.merkle_file.specs.Node as node
 use Rattle.ingest_session.specs.Due as due
 use Rattle.ingest_session.specs.History.{absent_by, sealed_by}
@@ -11,14 +13,15 @@ abbrev pub waiting_turn : Bool → Kind → Option Kind
 waiting_turn true turn = Some turn
 waiting_turn false turn = None
 
--- the open containers, and which item waits, if one does
+-- the containers, and which item waits, if one does
 pub record Core : Type 0 where
   pub leaves : Contents
   pub nodes : Contents
+  pub aside : List Contents
   pub waits : Option Kind
 
 abbrev pub core_of : SessionState → Core
-core_of s = record { leaves = s.leaves; nodes = s.nodes; waits = waiting_turn s.waits s.turn }
+core_of s = record { leaves = s.leaves; nodes = s.nodes; aside = s.aside; waits = waiting_turn s.waits s.turn }
 
 -- ---- the session of some segments of which some pieces are in their place
 
@@ -57,6 +60,7 @@ unturned ended segments c placed = record {
   top = None;
   leaves = c.leaves;
   nodes = c.nodes;
+  aside = c.aside;
   waits = any_waits c.waits;
   unseen = 0;
 }
@@ -79,9 +83,9 @@ pub record IsLike (s t : SessionState) : Type 0 where
 
 -- ---- an answer does the same to both
 
-core_placed : (n : Option node.Contents) (s : SessionState) → core_of (placed_item n s) ≡ core_of s
-core_placed None s = refl
-core_placed (Some n) s = refl
+core_placed : (more : ℕ) (n : Option node.Contents) (s : SessionState) → core_of (placed_item more n s) ≡ core_of s
+core_placed more None s = refl
+core_placed more (Some n) s = refl
 
 open_in : Core → Kind → Contents
 open_in c Leaf = c.leaves
@@ -114,8 +118,8 @@ same_by f s t turn item core =
     ∙ ap (λ (n : Option node.Contents). f (core_of s) (item_kind n) (item_of (turn_node t) t.queue)) turn
     ∙ ap (f (core_of s) (item_kind (turn_node s))) item
 
-after_absent : SessionState → Bool → SessionState
-after_absent s fit = if fit then placed_item (turn_node s) (added_item s) else record s { waits = true }
+after_absent : ℕ → SessionState → Bool → SessionState
+after_absent more s fit = if fit then placed_item more (turn_node s) (added_item s) else record s { waits = true }
 
 module _ (s t : SessionState) (turned : t.turn ≡ s.turn) (turn_is : turn_node t ≡ turn_node s)
     (item : item_of (turn_node t) t.queue ≡ item_of (turn_node s) s.queue) (core : core_of t ≡ core_of s) where
@@ -125,92 +129,96 @@ module _ (s t : SessionState) (turned : t.turn ≡ s.turn) (turn_is : turn_node 
       ∙ same_by room_in s t turn_is item core
       ∙ sym (room_is s (item_kind (turn_node s)) (item_of (turn_node s) s.queue))
 
-  after_alike : (fit : Bool) → core_of (after_absent t fit) ≡ core_of (after_absent s fit)
+  after_alike : (more : ℕ) (fit : Bool) → core_of (after_absent more t fit) ≡ core_of (after_absent more s fit)
   unfolding after_absent
-  after_alike true =
-      core_placed (turn_node t) (added_item t)
+  after_alike more true =
+      core_placed more (turn_node t) (added_item t)
       ∙ with_is t (item_kind (turn_node t)) (item_of (turn_node t) t.queue)
       ∙ same_by core_with s t turn_is item core
       ∙ sym (with_is s (item_kind (turn_node s)) (item_of (turn_node s) s.queue))
-      ∙ sym (core_placed (turn_node s) (added_item s))
-  after_alike false =
+      ∙ sym (core_placed more (turn_node s) (added_item s))
+  after_alike more false =
       ap (λ (c : Core). record c { waits = Some t.turn }) core ∙ ap (λ (k : Kind). record (core_of s) { waits = Some k }) turned
 
-  absent_alike : core_of (absent_item t) ≡ core_of (absent_item s)
+  absent_alike : (more : ℕ) → core_of (absent_item more t) ≡ core_of (absent_item more s)
   unfolding after_absent
-  absent_alike = ap (λ (fit : Bool). core_of (after_absent t fit)) fits_alike ∙ after_alike (fits s)
+  absent_alike more = ap (λ (fit : Bool). core_of (after_absent more t fit)) fits_alike ∙ after_alike more (fits s)
 
 placed_alike : (s t : SessionState) (fit : Bool) → turn t ≡ turn s → placed_if fit t ≡ placed_if fit s
 placed_alike s t true same = same
 placed_alike s t false same = refl
 
--- ---- a seal
+-- ---- an item that waited
 
-emptied_core : (s t : SessionState) (kind : Kind) → core_of t ≡ core_of s → core_of (emptied kind t) ≡ core_of (emptied kind s)
-emptied_core s t Leaf core = ap (λ (c : Core). record c { leaves = record c.leaves { segments = [] } }) core
-emptied_core s t Tree core = ap (λ (c : Core). record c { nodes = record c.nodes { segments = [] } }) core
+module _ (s t : SessionState) (turned : t.turn ≡ s.turn) (turn_is : turn_node t ≡ turn_node s)
+    (item : item_of (turn_node t) t.queue ≡ item_of (turn_node s) s.queue) (core : core_of t ≡ core_of s) (waits : t.waits ≡ s.waits) (pieces : turn t ≡ turn s) where
+  unwaited_core : core_of (record t { waits = false }) ≡ core_of (record s { waits = false })
+  unwaited_core = ap (λ (c : Core). record c { waits = None }) core
 
--- what waits for a container that was sealed
-abbrev pub waiting_after : Kind → SessionState → SessionState
-waiting_after kind s = record (emptied kind s) { waits = false }
+  resumed_by : (more : ℕ) (w : Bool) → core_of (if w then absent_item more (record t { waits = false }) else t)
+      ≡ core_of (if w then absent_item more (record s { waits = false }) else s)
+  resumed_by more true = absent_alike (record s { waits = false }) (record t { waits = false }) turned turn_is item unwaited_core more
+  resumed_by more false = core
 
-turned_after : (s t : SessionState) (kind : Kind) → t.turn ≡ s.turn → (waiting_after kind t).turn ≡ (waiting_after kind s).turn
-turned_after s t Leaf same = same
-turned_after s t Tree same = same
+  resumed_alike : (more : ℕ) → core_of (resumed more t) ≡ core_of (resumed more s)
+  resumed_alike more =
+      ap (λ (w : Bool). core_of (if w then absent_item more (record t { waits = false }) else t)) waits ∙ resumed_by more s.waits
 
-turn_after : (s t : SessionState) (kind : Kind) → turn_node t ≡ turn_node s → turn_node (waiting_after kind t) ≡ turn_node (waiting_after kind s)
-turn_after s t Leaf same = same
-turn_after s t Tree same = same
+  places_by : (w : Bool) → (if w then placed_if (fits (record t { waits = false })) t else []) ≡ (if w then placed_if (fits (record s { waits = false })) s else [])
+  places_by true =
+      ap (λ (fit : Bool). placed_if fit t) (fits_alike (record s { waits = false }) (record t { waits = false }) turned turn_is item unwaited_core)
+      ∙ placed_alike s t (fits (record s { waits = false })) pieces
+  places_by false = refl
 
-item_after : (s t : SessionState) (kind : Kind) → item_of (turn_node t) t.queue ≡ item_of (turn_node s) s.queue →
-    item_of (turn_node (waiting_after kind t)) (waiting_after kind t).queue ≡ item_of (turn_node (waiting_after kind s)) (waiting_after kind s).queue
-item_after s t Leaf same = same
-item_after s t Tree same = same
+  resumed_places_alike : placed_resumed t ≡ placed_resumed s
+  resumed_places_alike = ap (λ (w : Bool). if w then placed_if (fits (record t { waits = false })) t else []) waits ∙ places_by s.waits
 
-core_after : (s t : SessionState) (kind : Kind) → core_of t ≡ core_of s → core_of (waiting_after kind t) ≡ core_of (waiting_after kind s)
-core_after s t kind core = ap (λ (c : Core). record c { waits = None }) (emptied_core s t kind core)
+module _ (s t : SessionState) (like : IsLike s t) where
+  -- ---- a container that is set aside
 
-module _ (s t : SessionState) (like : IsLike s t) (kind : Kind) where
-  seal_alike : (waits : Bool) → core_of (if waits then absent_item (waiting_after kind t) else emptied kind t)
-      ≡ core_of (if waits then absent_item (waiting_after kind s) else emptied kind s)
-  seal_alike true =
-      absent_alike (waiting_after kind s) (waiting_after kind t) (turned_after s t kind like.turned) (turn_after s t kind like.which)
-      (item_after s t kind like.item) (core_after s t kind like.core)
-  seal_alike false = emptied_core s t kind like.core
+  put_core : core_of (put_aside t) ≡ core_of (put_aside s)
+  put_core = ap (λ (c : Core). record c { aside = c.aside ++ c.leaves ∷ []; leaves = record c.leaves { segments = [] } }) like.core
 
-  seal_told_alike : core_of (sealed kind t) ≡ core_of (sealed kind s)
-  seal_told_alike =
-      ap (λ (w : Bool). core_of (if w then absent_item (waiting_after kind t) else emptied kind t)) like.waits ∙ seal_alike s.waits
+  pub aside_alike : core_of (set_aside t) ≡ core_of (set_aside s)
+  aside_alike = resumed_alike (put_aside s) (put_aside t) like.turned like.which like.item put_core like.waits like.pieces 1
 
-  places_alike : (waits : Bool) → (if waits then placed_if (fits (waiting_after kind t)) t else [])
-      ≡ (if waits then placed_if (fits (waiting_after kind s)) s else [])
-  places_alike true =
-      ap (λ (fit : Bool). placed_if fit t)
-      (fits_alike (waiting_after kind s) (waiting_after kind t) (turned_after s t kind like.turned) (turn_after s t kind like.which)
-      (item_after s t kind like.item) (core_after s t kind like.core))
-      ∙ placed_alike s t (fits (waiting_after kind s)) like.pieces
-  places_alike false = refl
+  pub aside_places_alike : placed_resumed (put_aside t) ≡ placed_resumed (put_aside s)
+  aside_places_alike = resumed_places_alike (put_aside s) (put_aside t) like.turned like.which like.item put_core like.waits like.pieces
 
-  seal_places_alike : placed_after_seal (Seal kind) t ≡ placed_after_seal (Seal kind) s
-  seal_places_alike =
-      ap (λ (w : Bool). if w then placed_if (fits (waiting_after kind t)) t else []) like.waits ∙ places_alike s.waits
+  pub puts_alike : puts_aside t ≡ puts_aside s
+  puts_alike =
+      ap (λ (d : Due). seals_data d && (not (length t.leaves.segments == 0) && nat_lt (length t.aside) MOST_TOGETHER)) like.due
+      ∙ ap (λ (c : Core). seals_data (due_in s) && (not (length c.leaves.segments == 0) && nat_lt (length c.aside) MOST_TOGETHER)) like.core
+
+  -- ---- a seal
+
+  emptied_core : core_of (emptied t) ≡ core_of (emptied s)
+  emptied_core = ap (λ (c : Core). record c { nodes = record c.nodes { segments = [] } }) like.core
+
+  seal_alike : (count : ℕ) (kind : Kind) → core_of (told.sealed_by count (Seal kind) t) ≡ core_of (told.sealed_by count (Seal kind) s)
+  seal_alike count Leaf = ap (λ (c : Core). record c { aside = drop count c.aside }) like.core
+  seal_alike count Tree = resumed_alike (emptied s) (emptied t) like.turned like.which like.item emptied_core like.waits like.pieces 0
+
+  seal_places_alike : (kind : Kind) → placed_after_seal (Seal kind) t ≡ placed_after_seal (Seal kind) s
+  seal_places_alike Leaf = refl
+  seal_places_alike Tree = resumed_places_alike (emptied s) (emptied t) like.turned like.which like.item emptied_core like.waits like.pieces
 
 -- ---- each answer
 
-pub told_alike : (s t : SessionState) (answer : Answer) → IsLike s t → IsAnswerFor answer (due_in s) → core_of (told_by answer t) ≡ core_of (told_by answer s)
-told_alike s t Held like is = core_placed (turn_node t) t ∙ like.core ∙ sym (core_placed (turn_node s) s)
-told_alike s t Absent like is = absent_alike s t like.turned like.which like.item like.core
-told_alike s t (Sealed id) like is =
-    ap (λ (d : Due). core_of (told.sealed_by d t)) (like.due ∙ is.1)
-    ∙ seal_told_alike s t like is.0
-    ∙ sym (ap (λ (d : Due). core_of (told.sealed_by d s)) is.1)
+pub told_alike : (s t : SessionState) (answer : Answer) → IsLike s t → IsAnswerFor answer s → core_of (told_by answer t) ≡ core_of (told_by answer s)
+told_alike s t Held like is = core_placed 0 (turn_node t) t ∙ like.core ∙ sym (core_placed 0 (turn_node s) s)
+told_alike s t Absent like is = absent_alike s t like.turned like.which like.item like.core 0
+told_alike s t (Sealed id count) like is =
+    ap (λ (d : Due). core_of (told.sealed_by count d t)) (like.due ∙ is.1)
+    ∙ seal_alike s t like count is.0
+    ∙ sym (ap (λ (d : Due). core_of (told.sealed_by count d s)) is.1)
 told_alike s t other like is = absurd is
 
-pub places_alike_by : (s t : SessionState) (answer : Answer) → IsLike s t → IsAnswerFor answer (due_in s) → placed_by answer t ≡ placed_by answer s
+pub places_alike_by : (s t : SessionState) (answer : Answer) → IsLike s t → IsAnswerFor answer s → placed_by answer t ≡ placed_by answer s
 places_alike_by s t Held like is = like.pieces
 places_alike_by s t Absent like is =
     ap (λ (fit : Bool). placed_if fit t) (fits_alike s t like.turned like.which like.item like.core) ∙ placed_alike s t (fits s) like.pieces
-places_alike_by s t (Sealed id) like is =
+places_alike_by s t (Sealed id count) like is =
     ap (λ (d : Due). placed_after_seal d t) (like.due ∙ is.1)
     ∙ seal_places_alike s t like is.0
     ∙ sym (ap (λ (d : Due). placed_after_seal d s) is.1)
@@ -224,14 +232,14 @@ held_alike kind s t Held like =
     ∙ ap (λ (item : Segment). if same_kind kind (item_kind (turn_node s)) then item ∷ [] else []) like.item
 held_alike kind s t other like = refl
 
-open_alike : (kind : Kind) (s t : SessionState) → core_of t ≡ core_of s → due.open_of t kind ≡ due.open_of s kind
-open_alike Leaf s t core = ap (λ (c : Core). c.leaves) core
-open_alike Tree s t core = ap (λ (c : Core). c.nodes) core
+pub offer_alike : (kind : Kind) (s t : SessionState) → core_of t ≡ core_of s → offered_in t kind ≡ offered_in s kind
+offer_alike Leaf s t core = ap (λ (c : Core). c.aside) core
+offer_alike Tree s t core = ap (λ (c : Core). c.nodes ∷ []) core
 
-seals_alike : (kind : Kind) (s t : SessionState) (due : Due) → core_of t ≡ core_of s → sealed_for kind due t ≡ sealed_for kind due s
-seals_alike kind s t (Seal other) core =
-    ap (λ (c : Contents). if same_kind kind other then c.segments else []) (open_alike kind s t core)
-seals_alike kind s t due core = refl
+seals_alike : (kind : Kind) (count : ℕ) (s t : SessionState) (due : Due) → core_of t ≡ core_of s → sealed_for kind count due t ≡ sealed_for kind count due s
+seals_alike kind count s t (Seal other) core =
+    ap (λ (cs : List Contents). if same_kind kind other then segments_of_all (take count cs) else []) (offer_alike kind s t core)
+seals_alike kind count s t due core = refl
 
 pub absent_alike_by : (kind : Kind) (s t : SessionState) (answer : Answer) → IsLike s t → absent_by kind answer t ≡ absent_by kind answer s
 absent_alike_by kind s t Absent like =
@@ -240,6 +248,6 @@ absent_alike_by kind s t Absent like =
 absent_alike_by kind s t other like = refl
 
 pub sealed_alike : (kind : Kind) (s t : SessionState) (answer : Answer) → IsLike s t → sealed_by kind answer t ≡ sealed_by kind answer s
-sealed_alike kind s t (Sealed id) like =
-    ap (λ (due : Due). sealed_for kind due t) like.due ∙ seals_alike kind s t (due_in s) like.core
+sealed_alike kind s t (Sealed id count) like =
+    ap (λ (due : Due). sealed_for kind count due t) like.due ∙ seals_alike kind count s t (due_in s) like.core
 sealed_alike kind s t other like = refl

@@ -1,8 +1,11 @@
 -- What settling keeps.
-use Rattle.ingest_session.proofs.Prelude.{◌≡◌, ◌⊎◌, inl, inr, ◌∙◌, Bool, true, false, ◌&&◌, List, [], ◌++◌, refl, sym, ap, subst, append_assoc, append-nil, Piece, KeepsItem, HasHistory, Moved, Asked, moved, item_of, IsClosing, Settles, SettleStep, Then, Turned, Spelled, Advanced, Closed, PlacedNode, PlacedFront, IsSession, SessionState, turn_node}
-use Rattle.std.proofs.Common.{not}
-use Rattle.ingest_session.specs.History.{Places}
-use Rattle.ingest_session.specs.Settling.{KeepsOpen, Stays}
+use Rattle.ingest_session.proofs.Prelude.{◌≡◌, ◌⊎◌, inl, inr, ◌∙◌, ℕ, Bool, true, false, List, [], ◌++◌, refl, sym, ap, subst, append_assoc, append-nil, Kind, Piece, HasHistory, Moved, Asked, moved, fits, item_of, IsClosing, Settles, SettleStep, Then, Turned, Spelled, Advanced, Closed, PlacedNode, PlacedFront, SetAside, IsSession, SessionState, absent_item, added_item, placed_item, put_aside, item_kind, turn_node, unsealed}
+use Rattle.std.proofs.Common.{if◌then◌else◌}
+use Rattle.ingest_session.specs.History.{KeepsOpen, Places}
+use Rattle.ingest_session.specs.Settling.{Stays}
+use Rattle.ingest_session.proofs.Sealing.{no_step_off, step_unsealed, unsealed_alike, waits_placed, waits_with}
+use Rattle.ingest_session.proofs.Staying.{set_apart}
+use Rattle.ingest_session.proofs.Waiting.{on_and_off}
 
 pub settles_on : {first second third : SessionState} → Settles first second → Settles second third → Settles first third
 settles_on one (Stays s) = one
@@ -33,47 +36,73 @@ asking_places s t u settles is asked h has =
     let before = settling_places s t settles h has in
     (before.0, Asked t u (record h { placed = h.placed ++ before.0 }) before.1 is asked)
 
--- ---- the open containers
+-- ---- what is still to be sealed
 
-keeps_item_on : (first second third : SessionState) → second.waits ≡ first.waits → KeepsItem first second → KeepsItem second third → KeepsItem first third
-keeps_item_on first second third same one two on =
-    let before = one on in
-    let after = two (same ∙ on) in (after.0 ∙ before.0, after.1 ∙ before.1)
+-- an item that waits is one that waited
+abbrev KeepsWaiting : SessionState → SessionState → Type 0
+KeepsWaiting old new =
+    new.waits ≡ true → (old.waits ≡ true) × (turn_node new ≡ turn_node old) × (item_of (turn_node new) new.queue ≡ item_of (turn_node old) old.queue)
 
-keeps_on : (first second third : SessionState) → KeepsOpen first second → KeepsOpen second third → KeepsOpen first third
+pub keeps_on : (first second third : SessionState) → KeepsOpen first second → KeepsOpen second third → KeepsOpen first third
 keeps_on first second third one two = record {
   count = two.count ∙ one.count;
-  leaves = two.leaves ∙ one.leaves;
-  nodes = two.nodes ∙ one.nodes;
   ended = two.ended ∙ one.ended;
-  waits = two.waits ∙ one.waits;
-  item = keeps_item_on first second third one.waits one.item two.item;
+  unsealed = λ kind. two.unsealed kind ∙ one.unsealed kind;
+  item = λ on.
+      let after = two.item on in
+      let before = one.item after.0 in (before.0, after.1 ∙ before.1, after.2 ∙ before.2);
 }
 
--- an item that waits needs a step
-waits_for_step : (waits there : Bool) → (not waits && there) ≡ true → waits ≡ true → ⊥
-waits_for_step true there none on = cc
-waits_for_step false there none on = cc
+absent_waits : (more : ℕ) (s : SessionState) (fit : Bool) → s.waits ≡ false →
+    let t : SessionState = if fit then placed_item more (turn_node s) (added_item s) else record s { waits = true } in
+    t.waits ≡ true → (turn_node t ≡ turn_node s) × (item_of (turn_node t) t.queue ≡ item_of (turn_node s) s.queue)
+absent_waits more s true off on = on_and_off _ on (waits_placed more (turn_node s) (added_item s) ∙ waits_with s (item_kind (turn_node s)) _ ∙ off)
+absent_waits more s false off on = (refl, refl)
 
-on_and_off : (b : Bool) → b ≡ true → b ≡ false → ⊥
-on_and_off true on off = cc
-on_and_off false on off = cc
+resumed_waits : (more : ℕ) (s : SessionState) (waits : Bool) → s.waits ≡ waits →
+    KeepsWaiting s (if waits then absent_item more (record s { waits = false }) else s)
+resumed_waits more s true was on =
+    let t : SessionState = record s { waits = false } in
+    let same = absent_waits more t (fits t) refl on in (was, same.0, same.1)
+resumed_waits more s false off on = (on, refl, refl)
+
+step_waits : (s t : SessionState) → SettleStep s t → KeepsWaiting s t
+step_waits s t (Turned old new off is) = rw is (λ on. on_and_off old.waits on off)
+step_waits s t (Spelled old new is) = rw is (λ on. (on, refl, refl))
+step_waits s t (Advanced old new is) = rw is.others (λ on. (on, refl, refl))
+step_waits s t (Closed old new is) = rw is.others (λ on. (on, refl, refl))
+step_waits s t (PlacedNode old new none right some is) = rw is (λ on. on_and_off old.waits on (no_step_off old.waits _ none))
+step_waits s t (PlacedFront old new none right empty is) = rw is (λ on. on_and_off old.waits on (no_step_off old.waits _ none))
+step_waits s t (SetAside old new sound some right puts is) = rw is (resumed_waits 1 (put_aside old) old.waits refl)
 
 step_keeps : (s t : SessionState) → SettleStep s t → KeepsOpen s t
-step_keeps s t (Turned old new off is) =
-    rw is (record { count = refl; leaves = refl; nodes = refl; ended = refl; waits = refl; item = λ on. absurd (on_and_off old.waits on off) })
-step_keeps s t (Spelled old new is) = rw is (record { count = refl; leaves = refl; nodes = refl; ended = refl; waits = refl; item = λ on. (refl, refl) })
-step_keeps s t (Advanced old new is) =
-    rw is.others (record { count = refl; leaves = refl; nodes = refl; ended = refl; waits = refl; item = λ on. (refl, refl) })
-step_keeps s t (Closed old new is) =
-    rw is.others (record { count = refl; leaves = refl; nodes = refl; ended = refl; waits = refl; item = λ on. (refl, refl) })
-step_keeps s t (PlacedNode old new none right some is) =
-    rw is (record { count = refl; leaves = refl; nodes = refl; ended = refl; waits = refl; item = λ on. absurd (waits_for_step _ _ none on) })
-step_keeps s t (PlacedFront old new none right empty is) =
-    rw is (record { count = refl; leaves = refl; nodes = refl; ended = refl; waits = refl; item = λ on. absurd (waits_for_step _ _ none on) })
+step_keeps s t step = record {
+  count = count step;
+  ended = ended step;
+  unsealed = λ kind. step_unsealed kind s t step;
+  item = step_waits s t step;
+}
+  where
+    count : SettleStep s t → t.count ≡ s.count
+    count (Turned old new off is) = ap (λ (u : SessionState). u.count) is
+    count (Spelled old new is) = ap (λ (u : SessionState). u.count) is
+    count (Advanced old new is) = ap (λ (u : SessionState). u.count) is.others
+    count (Closed old new is) = ap (λ (u : SessionState). u.count) is.others
+    count (PlacedNode old new none right some is) = ap (λ (u : SessionState). u.count) is
+    count (PlacedFront old new none right empty is) = ap (λ (u : SessionState). u.count) is
+    count (SetAside old new sound some right puts is) = ap (λ (u : SessionState). u.count) is ∙ (set_apart old).count
+
+    ended : SettleStep s t → t.ended ≡ s.ended
+    ended (Turned old new off is) = ap (λ (u : SessionState). u.ended) is
+    ended (Spelled old new is) = ap (λ (u : SessionState). u.ended) is
+    ended (Advanced old new is) = ap (λ (u : SessionState). u.ended) is.others
+    ended (Closed old new is) = ap (λ (u : SessionState). u.ended) is.others
+    ended (PlacedNode old new none right some is) = ap (λ (u : SessionState). u.ended) is
+    ended (PlacedFront old new none right empty is) = ap (λ (u : SessionState). u.ended) is
+    ended (SetAside old new sound some right puts is) = ap (λ (u : SessionState). u.ended) is ∙ (set_apart old).ended
 
 pub settling_keeps : (s t : SessionState) → Settles s t → KeepsOpen s t
-settling_keeps s t (Stays r) = record { count = refl; leaves = refl; nodes = refl; ended = refl; waits = refl; item = λ on. (refl, refl) }
+settling_keeps s t (Stays r) = record { count = refl; ended = refl; unsealed = λ kind. refl; item = λ on. (on, refl, refl) }
 settling_keeps s t (Then first second third settles is step) =
     keeps_on first second third (settling_keeps first second settles) (step_keeps second third step)
 
@@ -82,9 +111,14 @@ asking_keeps s t u settles asked =
     keeps_on s t u (settling_keeps s t settles)
     (record {
       count = ap (λ (x : SessionState). x.count) asked;
-      leaves = ap (λ (x : SessionState). x.leaves) asked;
-      nodes = ap (λ (x : SessionState). x.nodes) asked;
       ended = ap (λ (x : SessionState). x.ended) asked;
-      waits = ap (λ (x : SessionState). x.waits) asked;
-      item = λ on. (ap (λ (x : SessionState). (turn_node x)) asked, ap (λ (x : SessionState). item_of (turn_node x) x.queue) asked);
+      unsealed = λ kind. unsealed_asked kind;
+      item = λ on. (
+        sym (ap (λ (x : SessionState). x.waits) asked) ∙ on,
+        ap (λ (x : SessionState). (turn_node x)) asked,
+        ap (λ (x : SessionState). item_of (turn_node x) x.queue) asked,
+      );
     })
+  where
+    unsealed_asked : (kind : Kind) → unsealed kind u ≡ unsealed kind t
+    unsealed_asked kind = unsealed_alike kind t u _ asked refl refl refl refl

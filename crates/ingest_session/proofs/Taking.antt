@@ -61,6 +61,8 @@ module _ (s : SessionState) (bytes : List ℕ) (taken : Taken) (hand : Hand) (is
         closed = λ last. absurd (not_last_and_one s.ended s.queue hand.bytes last);
         next = is.next;
         nodes_right = is.nodes_right;
+        aside = is.aside;
+        together = is.together;
         line = is.line;
         full = λ on. full_stays s hand.bytes (is.waits on).0 is.ahead (is.full on);
         waits = λ on. ((is.waits on).0, λ _ last. absurd (not_last_and_one s.ended (rest_of s) hand.bytes (ap (is_last s.ended) (sym grows) ∙ last)));

@@ -3,7 +3,7 @@ use Rattle.std.specs.Prelude.{◌≡◌, ℕ, Bool, List}
 use Rattle.container_meta.specs.declared.kind.Kind.{Kind}
 use Rattle.actor_parts.specs.declared.step.Answer.{Answer}
 use Rattle.ingest_session.specs.declared.due.Due.{Due}
-use Rattle.ingest_session.specs.Due.{due_in}
+use Rattle.ingest_session.specs.Due.{due_in, offered_in}
 use Rattle.ingest_session.specs.Facts.{kept}
 use Rattle.ingest_session.specs.History.{History, HasHistory}
 use Rattle.ingest_session.specs.State.{SessionState}
@@ -24,6 +24,11 @@ pub record IsDueFor (given : List ℕ) (ended : Bool) (answers : List Answer) (d
 abbrev pub DueIsOne : Type 0
 DueIsOne = (given : List ℕ) (ended : Bool) (answers : List Answer) (one other : Due) → IsDueFor given ended answers one
     → IsDueFor given ended answers other → one ≡ other
+
+-- And a seal offers the same containers.
+abbrev pub OfferIsOne : Type 0
+OfferIsOne = (given : List ℕ) (ended : Bool) (answers : List Answer) (due also : Due) (one : IsDueFor given ended answers due)
+    (other : IsDueFor given ended answers also) (kind : Kind) → offered_in one.session kind ≡ offered_in other.session kind
 
 -- However the bytes came in pieces between the answers, and whether the file has ended or not, the same segments of each kind are
 -- kept, in the same order.

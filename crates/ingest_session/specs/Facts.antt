@@ -13,7 +13,7 @@ use Rattle.store_model.specs.Trees.{root_of}
 use Rattle.ingest_session.specs.declared.due.Due.TheVariants.{Claim, Nothing}
 use Rattle.ingest_session.specs.declared.line.TheConstants.{MOST_LINE}
 use Rattle.ingest_session.specs.Calls.{ready_in}
-use Rattle.ingest_session.specs.Due.{due_in, due_node, item_is_held, open_of}
+use Rattle.ingest_session.specs.Due.{due_in, due_node, gathered, item_is_held}
 use Rattle.ingest_session.specs.History.{History, HasHistory, turn, waiting}
 use Rattle.ingest_session.specs.State.{SessionState, turn_node}
 
@@ -48,14 +48,15 @@ abbrev pub PlacedComeFirst : Type 0
 PlacedComeFirst = (s : SessionState) (h : History) (more : List ℕ) → HasHistory s h → MayFollow more s →
     ComesFirst (h.given ++ more) h.placed
 
--- However the file goes on, the item whose turn it is is a piece of it, and so is all that lies in an open container.
+-- However the file goes on, the item whose turn it is is a piece of it, and so is all that is still to be sealed.
 abbrev pub TurnsArePieces : Type 0
 TurnsArePieces = (s : SessionState) (h : History) (more : List ℕ) → HasHistory s h → MayFollow more s
     → AllByRecursion (IsPieceOf (h.given ++ more)) (turn s)
 
 abbrev pub OpensArePieces : Type 0
 OpensArePieces = (s : SessionState) (h : History) (more : List ℕ) → HasHistory s h → MayFollow more s
-    → (kind : Kind) → AllByRecursion (λ x. HasPieceOf (h.given ++ more) (record { kind = kind; segment = x })) (open_of s kind).segments
+    → (kind : Kind)
+    → AllByRecursion (λ x. HasPieceOf (h.given ++ more) (record { kind = kind; segment = x })) (gathered s kind).segments
 
 -- ---- what the store keeps
 
@@ -82,13 +83,13 @@ OpenNodesHaveChildren = (s : SessionState) (h : History) → HasHistory s h
 
 -- ---- seals
 
--- What was sealed, what lies in the open container and what waits are the segments whose claims were answered Absent, in
--- order, each as often as it was answered so.
+-- What was sealed, what was set aside, what lies in the open container and what waits are the segments whose claims were answered
+-- Absent, in order, each as often as it was answered so.
 abbrev pub SealsWereAbsent : Type 0
 SealsWereAbsent = (s : SessionState) (h : History) (kind : Kind) → HasHistory s h
-    → (h.sealed kind ++ (open_of s kind).segments) ++ waiting kind s ≡ h.absent kind
+    → (h.sealed kind ++ (gathered s kind).segments) ++ waiting kind s ≡ h.absent kind
 
--- The container has no segment of the key of the item that waits for it.
+-- Nothing of its kind that is still to be sealed has the key of the item that waits.
 abbrev pub WaitsForAnother : Type 0
 WaitsForAnother = (s : SessionState) (h : History) → HasHistory s h → s.waits ≡ true → item_is_held s (turn_node s) ≡ false
 

@@ -1,5 +1,6 @@
 -- What was done with a session since it was new (docs/MODEL.md, 'Sessions').
-use Rattle.std.specs.Prelude.{◌≡◌, ◌≤◌, ℕ, Bool, true, false, if◌then◌else◌, List, [], ◌∷◌, ◌++◌, length, Option, Some, None}
+use Rattle.std.specs.Prelude.{◌≡◌, ◌≤◌, ℕ, Bool, true, false, if◌then◌else◌, List, [], ◌∷◌, ◌++◌, length, take, Option, Some, None}
+use Rattle.std.specs.List.{AllByRecursion}
 use Rattle.container_meta.specs.declared.kind.Kind.{Kind}
 use Rattle.container_meta.specs.declared.kind.Kind.TheVariants.{Leaf, Tree}
 use Rattle.container_meta.specs.Segments.{Segment}
@@ -12,12 +13,12 @@ use Rattle.store_model.specs.Pieces.{Piece, Data, Node}
 use Rattle.ingest_session.specs.declared.due.Due.{Due}
 use Rattle.ingest_session.specs.declared.due.Due.TheVariants.{Seal}
 use Rattle.ingest_session.specs.Calls.{IsEnding, IsTaking}
-use Rattle.ingest_session.specs.Due.{due_in, item_kind, open_of}
+use Rattle.ingest_session.specs.Due.{due_in, gathered, item_kind, offered_in, segments_of_all}
 use Rattle.ingest_session.specs.Items.{fits, item_of}
-use Rattle.ingest_session.specs.Settling.{SettleStep, Turned, Spelled, Advanced, Closed, PlacedNode, PlacedFront}
+use Rattle.ingest_session.specs.Settling.{SettleStep, Turned, Spelled, Advanced, Closed, PlacedNode, PlacedFront, SetAside}
 use Rattle.ingest_session.specs.Sound.{IsSession}
 use Rattle.ingest_session.specs.State.{SessionState, turn_node}
-use Rattle.ingest_session.specs.Told.{IsAnswerFor, IsSettled, emptied, told_by}
+use Rattle.ingest_session.specs.Told.{IsAnswerFor, IsSettled, emptied, put_aside, told_by}
 
 pub record History : Type 0 where
   -- the bytes that were taken
@@ -60,6 +61,10 @@ item_if kind s = if same_kind kind (item_kind (turn_node s)) then item_of (turn_
 abbrev pub waiting : Kind → SessionState → List Segment
 waiting kind s = if s.waits then item_if kind s else []
 
+-- what was answered Absent of a kind and is not sealed, in order
+abbrev pub unsealed : Kind → SessionState → List Segment
+unsealed kind s = (gathered s kind).segments ++ waiting kind s
+
 -- ---- what an answer adds to a history
 
 abbrev pub held_by : Kind → Answer → SessionState → List Segment
@@ -70,27 +75,31 @@ abbrev pub absent_by : Kind → Answer → SessionState → List Segment
 absent_by kind Absent s = item_if kind s
 absent_by kind other s = []
 
-abbrev pub sealed_for : Kind → Due → SessionState → List Segment
-sealed_for kind (Seal other) s = if same_kind kind other then (open_of s kind).segments else []
-sealed_for kind due s = []
+-- the segments of the first containers that were offered, so many of them
+abbrev pub sealed_for : Kind → ℕ → Due → SessionState → List Segment
+sealed_for kind count (Seal other) s = if same_kind kind other then segments_of_all (take count (offered_in s kind)) else []
+sealed_for kind count due s = []
 
 abbrev pub sealed_by : Kind → Answer → SessionState → List Segment
-sealed_by kind (Sealed id) s = sealed_for kind (due_in s) s
+sealed_by kind (Sealed id count) s = sealed_for kind count (due_in s) s
 sealed_by kind other s = []
 
--- an item that was answered Absent is in its place where it fits, and one that waited where it fits after the seal
+-- an item that was answered Absent is in its place where it fits, and one that waited where it fits into another container
 abbrev pub placed_if : Bool → SessionState → List Piece
 placed_if true s = turn s
 placed_if false s = []
 
+abbrev pub placed_resumed : SessionState → List Piece
+placed_resumed s = if s.waits then placed_if (fits (record s { waits = false })) s else []
+
 abbrev pub placed_after_seal : Due → SessionState → List Piece
-placed_after_seal (Seal kind) s = if s.waits then placed_if (fits (record (emptied kind s) { waits = false })) s else []
+placed_after_seal (Seal Tree) s = placed_resumed (emptied s)
 placed_after_seal due s = []
 
 abbrev pub placed_by : Answer → SessionState → List Piece
 placed_by Held s = turn s
 placed_by Absent s = placed_if (fits s) s
-placed_by (Sealed id) s = placed_after_seal (due_in s) s
+placed_by (Sealed id count) s = placed_after_seal (due_in s) s
 placed_by other s = []
 
 abbrev pub answered : Answer → SessionState → History → History
@@ -117,6 +126,7 @@ pub record IsBegun (s : SessionState) : Type 0 where
   pub top : s.top ≡ None
   pub leaves : s.leaves.segments ≡ []
   pub nodes : s.nodes.segments ≡ []
+  pub aside : s.aside ≡ []
   pub waits : s.waits ≡ false
 
 -- what a move before a step puts in its place
@@ -127,10 +137,11 @@ moved (Advanced s t is) = []
 moved (Closed s t is) = []
 moved (PlacedNode s t none right some is) = turn s
 moved (PlacedFront s t none right empty is) = turn s
+moved (SetAside s t sound some right puts is) = placed_resumed (put_aside s)
 
--- a container that is to be sealed holds a segment
+-- each container that is to be sealed holds a segment
 abbrev pub SealsSome : Due → SessionState → Type 0
-SealsSome (Seal kind) s = 1 ≤ length (open_of s kind).segments
+SealsSome (Seal kind) s = AllByRecursion (λ c. 1 ≤ length c.segments) (offered_in s kind)
 SealsSome due s = Unit {0}
 
 -- A session after calls in any order since it was new, and what was done by them.
@@ -143,8 +154,17 @@ pub data HasHistory : SessionState → History → Type 0 where
       → HasHistory t (record h { placed = h.placed ++ moved step })
   Asked : (s t : SessionState) (h : History) → HasHistory s h → IsSession t → t ≡ record s { unseen = 0 } → HasHistory t h
   Told : (s : SessionState) (answer : Answer) (h : History) → HasHistory s h → IsSession (told_by answer s) → IsSettled s
-      → s.unseen ≡ 0 → IsAnswerFor answer (due_in s) → SealsSome (due_in s) s → HasHistory (told_by answer s) (answered answer s h)
+      → s.unseen ≡ 0 → IsAnswerFor answer s → SealsSome (due_in s) s → HasHistory (told_by answer s) (answered answer s h)
 
 -- Pieces went to their place, and nothing else was done.
 abbrev pub Places : SessionState → SessionState → Type 0
 Places s t = (h : History) → HasHistory s h → (more : List Piece) × HasHistory t (record h { placed = h.placed ++ more })
+
+-- What finding the step that is due leaves as it is: how many bytes were taken and whether the file has ended, and what was answered
+-- Absent and is not sealed. An item that waits afterwards waited before, and is the same.
+pub record KeepsOpen (old new : SessionState) : Type 0 where
+  pub count : new.count ≡ old.count
+  pub ended : new.ended ≡ old.ended
+  pub unsealed : (kind : Kind) → unsealed kind new ≡ unsealed kind old
+  pub item : new.waits ≡ true → (old.waits ≡ true) × (turn_node new ≡ turn_node old)
+      × (item_of (turn_node new) new.queue ≡ item_of (turn_node old) old.queue)

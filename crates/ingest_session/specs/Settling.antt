@@ -2,14 +2,14 @@
 use Rattle.std.specs.Prelude.{◌≡◌, ◌+◌, ◌<◌, ℕ, Bool, true, false, length, None, IsSome}
 use Rattle.ingest_session.specs.Sound.{IsSession}
 use Rattle.ingest_session.specs.State.{SessionState, turn_node}
-use Rattle.ingest_session.specs.Due.{needs_no_step, turn_in}
-use Rattle.ingest_session.specs.Calls.{KeepsItem}
-use Rattle.ingest_session.specs.Told.{IsSettled, placed_node, placed_front}
+use Rattle.ingest_session.specs.Due.{needs_no_step, puts_aside, turn_in}
+use Rattle.ingest_session.specs.Told.{IsPlaced, placed_node, placed_front, set_aside}
 use Rattle.ingest_session.specs.Moving.{IsAdvanced, IsClosing, IsSpelledOut, IsTurned}
 use Rattle.ingest_session.specs.Work.{to_do}
 
 -- What may happen before a step is due: whose turn it is is found; that item gets its segment, and goes to its place where it
--- needs no step; the tree is made whole where its last segment has its turn.
+-- needs no step; the tree is made whole where its last segment has its turn; the open container of data is set aside where it is
+-- to be sealed.
 pub data SettleStep : SessionState → SessionState → Type 0 where
   Turned : (old new : SessionState) → old.waits ≡ false → IsTurned old new → SettleStep old new
   Spelled : (old new : SessionState) → IsSpelledOut old new → SettleStep old new
@@ -19,26 +19,18 @@ pub data SettleStep : SessionState → SessionState → Type 0 where
       → new ≡ placed_node old → SettleStep old new
   PlacedFront : (old new : SessionState) → needs_no_step old ≡ true → old.turn ≡ turn_in old → turn_node old ≡ None
       → new ≡ placed_front 1 old → SettleStep old new
+  SetAside : (old new : SessionState) → IsSession old → needs_no_step old ≡ false
+      → (old.waits ≡ false → old.turn ≡ turn_in old) → puts_aside old ≡ true → new ≡ set_aside old → SettleStep old new
 
 -- Any number of these, one after the other.
 pub data Settles : SessionState → SessionState → Type 0 where
   Stays : (s : SessionState) → Settles s s
   Then : (first second third : SessionState) → Settles first second → IsSession third → SettleStep second third → Settles first third
 
--- What they leave as it is: how many bytes were taken, the open containers, whether the file has ended and whether an item
--- waits, and that item.
-pub record KeepsOpen (old new : SessionState) : Type 0 where
-  pub count : new.count ≡ old.count
-  pub leaves : new.leaves ≡ old.leaves
-  pub nodes : new.nodes ≡ old.nodes
-  pub ended : new.ended ≡ old.ended
-  pub waits : new.waits ≡ old.waits
-  pub item : KeepsItem old new
-
--- What trying to put the item whose turn it is in its place does: less is left to do, or the session is settled.
+-- What trying to put the item whose turn it is in its place does: less is left to do, or it needs a step.
 abbrev pub Passes : Bool → SessionState → SessionState → Type 0
-Passes true old new = (to_do new < to_do old) × (new.waits ≡ false)
-Passes false old new = IsSettled new × (new.waits ≡ false)
+Passes true old new = to_do new < to_do old
+Passes false old new = IsPlaced new × (new.waits ≡ false)
 
 -- how many segments are seen to wait
 abbrev pub seen : SessionState → ℕ

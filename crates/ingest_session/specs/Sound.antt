@@ -3,6 +3,8 @@ use Rattle.std.specs.Prelude.{◌≡◌, ◌≤◌, ◌+◌, true, false, [], le
 use Rattle.std.specs.List.{AllByRecursion}
 use Rattle.disk_format.specs.declared.numbers.TheConstants.{MOST_FILE}
 use Rattle.container_meta.specs.declared.kind.Kind.TheVariants.{Leaf, Tree}
+use Rattle.container_meta.specs.Segments.{Contents}
+use Rattle.actor_parts.specs.declared.step.TheConstants.{MOST_TOGETHER}
 use Rattle.actor_parts.specs.Segments.{AreStepSegments}
 use Rattle.ingest_session.specs.declared.queue.TheConstants.{QUEUE, BUFFERS}
 use Rattle.ingest_session.specs.declared.line.TheConstants.{MOST_LINE}
@@ -10,6 +12,10 @@ use Rattle.ingest_session.specs.Finished.{first_of}
 use Rattle.ingest_session.specs.Items.{fits}
 use Rattle.ingest_session.specs.Stream.{IsUncut}
 use Rattle.ingest_session.specs.State.{SessionState, HasItem, IsAhead, IsBuilding, IsClosed, IsSized, IsSpelled, IsWhole, ends_left, is_last, rest_of, turn_node}
+
+-- a container that is set aside has data, a segment at least
+abbrev pub IsAside : Contents → Type 0
+IsAside c = (c.kind ≡ Leaf) × (1 ≤ length c.segments)
 
 pub record IsSession (s : SessionState) : Type 0 where
   pub data_kind : s.leaves.kind ≡ Leaf
@@ -28,5 +34,7 @@ pub record IsSession (s : SessionState) : Type 0 where
   pub next : s.ahead ≡ None → s.built.finished ≡ []
   pub line : length s.line + length s.built.finished + ends_left s.top s.built ≤ MOST_LINE
   pub nodes_right : AreStepSegments Tree s.nodes.segments
+  pub aside : AllByRecursion IsAside s.aside
+  pub together : length s.aside ≤ MOST_TOGETHER
   pub waits : s.waits ≡ true → HasItem (turn_node s) s.spelled s.ahead × IsClosed s
   pub full : s.waits ≡ true → fits s ≡ false

@@ -29,9 +29,10 @@ pub record SessionState : Type 0 where
   -- the builder of the tree, which has the nodes that are finished by the segment ahead, and the root where the tree is whole
   pub built : Progress
   pub top : Option Top
-  -- the open containers
+  -- the open containers, and those of data that were set aside to be sealed together, in order
   pub leaves : Contents
   pub nodes : Contents
+  pub aside : List Contents
   -- whether the item whose turn it is was answered Absent and didn't fit
   pub waits : Bool
   -- how many segments were put in their place by a call that was refused after it

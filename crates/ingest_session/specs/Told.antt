@@ -1,5 +1,5 @@
 -- What an answer does to a session.
-use Rattle.std.specs.Prelude.{◌≡◌, ℕ, ◌+◌, true, false, if◌then◌else◌, [], ◌++◌, drop, Option, Some, None}
+use Rattle.std.specs.Prelude.{◌≡◌, ◌≤◌, ℕ, ◌+◌, true, false, if◌then◌else◌, [], ◌∷◌, ◌++◌, drop, length, Option, Some, None}
 use Rattle.container_meta.specs.declared.kind.Kind.{Kind}
 use Rattle.container_meta.specs.declared.kind.Kind.TheVariants.{Leaf, Tree}
 use Rattle.container_meta.specs.Segments.{Contents}
@@ -12,7 +12,7 @@ use Rattle.ingest_session.specs.State.{SessionState, HasItem, IsClosed, turn_nod
 use Rattle.ingest_session.specs.Filling.{with_segment}
 use Rattle.ingest_session.specs.Finished.{without_nodes}
 use Rattle.ingest_session.specs.Items.{fits, item_of}
-use Rattle.ingest_session.specs.Due.{HasTurn, due_in, item_kind, needs_no_step, open_of, turn_in}
+use Rattle.ingest_session.specs.Due.{HasTurn, due_in, item_kind, needs_no_step, offered_in, open_of, puts_aside, turn_in}
 
 -- the first node in line goes to its place
 abbrev pub placed_node : SessionState → SessionState
@@ -29,9 +29,9 @@ placed_front more s = record s {
   unseen = s.unseen + more;
 }
 
-abbrev pub placed_item : Option node.Contents → SessionState → SessionState
-placed_item (Some n) s = placed_node s
-placed_item None s = placed_front 0 s
+abbrev pub placed_item : ℕ → Option node.Contents → SessionState → SessionState
+placed_item more (Some n) s = placed_node s
+placed_item more None s = placed_front more s
 
 -- a container with another in its place
 abbrev pub with_open : Kind → Contents → SessionState → SessionState
@@ -43,40 +43,58 @@ added_item s =
     with_open (item_kind (turn_node s)) (with_segment (open_of s (item_kind (turn_node s))) (item_of (turn_node s) s.queue)) s
 
 -- An item that was answered Absent goes into its container and to its place, or waits where there is no room.
-abbrev pub absent_item : SessionState → SessionState
-absent_item s = if fits s then placed_item (turn_node s) (added_item s) else record s { waits = true }
+abbrev pub absent_item : ℕ → SessionState → SessionState
+absent_item more s = if fits s then placed_item more (turn_node s) (added_item s) else record s { waits = true }
 
--- a container was sealed: it is empty, and the item that waits for it is added
-abbrev pub emptied : Kind → SessionState → SessionState
-emptied kind s = with_open kind (record (open_of s kind) { segments = [] }) s
+-- an item that waits, where its open container is another now
+abbrev pub resumed : ℕ → SessionState → SessionState
+resumed more s = if s.waits then absent_item more (record s { waits = false }) else s
 
-abbrev pub sealed : Kind → SessionState → SessionState
-sealed kind s = if s.waits then absent_item (record (emptied kind s) { waits = false }) else emptied kind s
+-- ---- seals
 
-abbrev pub sealed_by : Due → SessionState → SessionState
-sealed_by (Seal kind) s = sealed kind s
-sealed_by other s = s
+-- The open container of data is set aside, and an empty one is in its place: the item that waits goes there.
+abbrev pub put_aside : SessionState → SessionState
+put_aside s = record s { aside = s.aside ++ s.leaves ∷ []; leaves = record s.leaves { segments = [] } }
+
+abbrev pub set_aside : SessionState → SessionState
+set_aside s = resumed 1 (put_aside s)
+
+-- the open container of nodes was sealed: it is empty
+abbrev pub emptied : SessionState → SessionState
+emptied s = record s { nodes = record s.nodes { segments = [] } }
+
+-- So many of those that were offered were sealed. The rest stay aside, and an item that waits for a place there waits on; one
+-- that waits for the container of nodes goes there.
+abbrev pub sealed_by : ℕ → Due → SessionState → SessionState
+sealed_by count (Seal Leaf) s = record s { aside = drop count s.aside }
+sealed_by count (Seal Tree) s = resumed 0 (emptied s)
+sealed_by count other s = s
 
 -- the session after it was told an answer
 abbrev pub told_by : Answer → SessionState → SessionState
-told_by Held s = placed_item (turn_node s) s
-told_by Absent s = absent_item s
-told_by (Sealed id) s = sealed_by (due_in s) s
+told_by Held s = placed_item 0 (turn_node s) s
+told_by Absent s = absent_item 0 s
+told_by (Sealed id count) s = sealed_by count (due_in s) s
 told_by other s = s
 
 -- ---- which answers may be told
 
 -- Everything that needs no step is in its place, and the item whose turn it is has its turn, and its segment.
-pub record IsSettled (s : SessionState) : Type 0 where
+pub record IsPlaced (s : SessionState) : Type 0 where
   pub turn : s.waits ≡ false → s.turn ≡ turn_in s
   pub none : needs_no_step s ≡ false
   pub item : HasTurn (turn_node s) s.queue → HasItem (turn_node s) s.spelled s.ahead
   pub claim : due_in s ≡ Claim → HasItem (turn_node s) s.spelled s.ahead
   pub closed : IsClosed s
 
--- an answer that the step which is due can have
-abbrev pub IsAnswerFor : Answer → Due → Type 0
-IsAnswerFor Held due = due ≡ Claim
-IsAnswerFor Absent due = due ≡ Claim
-IsAnswerFor (Sealed id) due = (kind : Kind) × (due ≡ Seal kind)
-IsAnswerFor other due = ⊥
+-- And the open container of data is aside where it is to be sealed.
+pub record IsSettled (s : SessionState) : Type 0 where
+  pub placed : IsPlaced s
+  pub aside : puts_aside s ≡ false
+
+-- an answer that the step which is due can have: of what is offered to a seal, one container or more are sealed
+abbrev pub IsAnswerFor : Answer → SessionState → Type 0
+IsAnswerFor Held s = due_in s ≡ Claim
+IsAnswerFor Absent s = due_in s ≡ Claim
+IsAnswerFor (Sealed id count) s = (kind : Kind) × (due_in s ≡ Seal kind) × (1 ≤ count) × (count ≤ length (offered_in s kind))
+IsAnswerFor other s = ⊥

@@ -4,7 +4,7 @@ use Rattle.std.specs.Option.{option_to_list}
 use Rattle.container_meta.specs.Segments.{Segment}
 use Rattle.ingest_session.specs.State.{SessionState, ends_left, rest_of}
 
--- one seal, for a container that isn't empty
+-- one seal for a container that isn't empty; of data it is set aside before
 abbrev pub seals_left : List Segment → ℕ
 seals_left [] = 0
 seals_left (s ∷ ss) = 1
@@ -21,4 +21,4 @@ pieces_left s = length (option_to_list s.ahead) + length s.line + length s.built
 abbrev pub to_do : SessionState → ℕ
 to_do s =
     64 * length (rest_of s) + 4 * pieces_left s
-    + seals_left s.leaves.segments + seals_left s.nodes.segments + waits_left s.waits
+    + 2 * seals_left s.leaves.segments + length s.aside + seals_left s.nodes.segments + waits_left s.waits

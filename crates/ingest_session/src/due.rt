@@ -1,17 +1,15 @@
 //! Which step of the store is due.
-ghost use Rattle.std.specs.Prelude.{◌≡◌, ◌≤◌};
+ghost use Rattle.std.specs.Prelude.{◌≡◌};
 ghost use Rattle.actor_parts.specs.Segments.{child_kind as kind_below};
-ghost use Rattle.ingest_session.specs.Child.{has_child_of};
 
-use container_meta::{Kind, OpenContainer, key_of};
-use merkle_file::Node;
+use container_meta::Kind;
 
 /// The step of the store that a session needs next.
 #[derive(Clone, Copy)]
 pub enum Due {
     /// A claim of the segment whose turn it is: `Session::offered`.
     Claim,
-    /// A seal of the open container of a kind: `Session::filled`.
+    /// A seal of containers of a kind: `Session::filled`.
     Seal(Kind),
     /// No step. Before `finish` more bytes are to come; after it the steps of the file are made.
     Nothing,
@@ -22,14 +20,4 @@ pub(crate) fn child_kind(level: u8) -> Kind
     ensures { result ≡ kind_below level }
 {
     if level == 1 { Kind::Leaf } else { Kind::Tree }
-}
-
-/// Whether a child of the node lies in the container.
-pub(crate) fn has_child(filled: &OpenContainer, node: &Node) -> bool
-    ensures { result ≡ has_child_of filled.now node.now }
-{
-    let kind = child_kind(node.level());
-    node.children()
-        .iter()
-        .any(|child| filled.has(&key_of(kind, &child.digest)))
 }

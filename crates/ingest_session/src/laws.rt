@@ -1,6 +1,6 @@
 //! Laws of sessions with a history, for those who stand on them (docs/MODEL.md, 'Sessions'). Their functions do nothing.
 ghost use Rattle.ingest_session.specs.Facts.{AllIsKept, BytesAreCounted, ChildrenComeFirst, NodesAreFew, OpenNodesHaveChildren, OpensArePieces, PlacedComeFirst, SealsWereAbsent, StepsAreFew, TurnsArePieces, WaitsForAnother};
-ghost use Rattle.ingest_session.specs.DueFor.{DueIsOne, KeptIsOne};
+ghost use Rattle.ingest_session.specs.DueFor.{DueIsOne, KeptIsOne, OfferIsOne};
 
 /// How many bytes were taken is counted.
 pub fn bytes_are_counted()
@@ -20,8 +20,8 @@ pub fn children_come_first()
     ensures seals { OpenNodesHaveChildren }
 {}
 
-/// What was sealed, what lies in an open container and what waits for it are the segments whose claims were answered Absent,
-/// in order, each as often as it was answered so; what waits has a key that the container lacks.
+/// What was sealed, what was set aside, what lies in an open container and what waits for it are the segments whose claims were
+/// answered Absent, in order, each as often as it was answered so; what waits has a key that those not sealed lack.
 pub fn seals_were_absent()
     ensures absent { SealsWereAbsent }
     ensures waits { WaitsForAnother }
@@ -37,9 +37,11 @@ pub fn nodes_are_few()
     ensures { NodesAreFew }
 {}
 
-/// What is due of some bytes after some answers is one step, however the bytes came in pieces between the answers.
+/// What is due of some bytes after some answers is one step, and what a seal then offers are the same containers, however the bytes
+/// came in pieces between the answers.
 pub fn due_is_one()
-    ensures { DueIsOne }
+    ensures due { DueIsOne }
+    ensures offer { OfferIsOne }
 {}
 
 /// What was kept of some bytes after some answers, as answered Held or sealed, are the same segments of each kind in the same

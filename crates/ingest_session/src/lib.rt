@@ -13,6 +13,7 @@
 //! 'Steps', says what isn't proved.
 #![tactic(auto)]
 
+mod aside;
 mod asking;
 mod due;
 mod ending;

@@ -1,6 +1,7 @@
 //! A session: the bytes of a file as they come.
 ghost use Rattle.std.specs.Prelude.{◌≡◌, ◌+◌, ◌*◌, ◌<◌, ◌≤◌, ℕ, IsTrue, false, List, [], ◌++◌, IfOk, OnErr, length, take};
 
+use crate::aside::Aside;
 use crate::line::Line;
 use crate::queue::{MANY, MOST_WAITING, QUEUE, Queue};
 use container_meta::{Kind, OpenContainer, Seg};
@@ -14,7 +15,8 @@ use std::thread::Threads;
 
 /// The bytes of a file as they come, and what of them the store is still to hold.
 ///
-/// It takes the memory of its queue and of two open containers when it is made; that of the nodes that wait comes with them.
+/// It takes the memory of its queue and of two open containers when it is made; that of the nodes that wait comes with them, and so
+/// does that of containers that are set aside, at most 16: 4.2 MB in all.
 #[derive(Drop)]
 pub struct Session {
     pub(crate) alloc: Global,
@@ -38,6 +40,8 @@ pub struct Session {
     pub(crate) top: Option<Top>,
     pub(crate) leaves: OpenContainer,
     pub(crate) nodes: OpenContainer,
+    /// The containers of data that were set aside, to be sealed together.
+    pub(crate) aside: Aside,
     /// The item whose turn it is was answered Absent and didn't fit.
     pub(crate) waits: bool,
     /// How many segments were put in their place by a call that was refused after it.
@@ -63,6 +67,7 @@ impl Model for Session {
       top = s.top;
       leaves = s.leaves;
       nodes = s.nodes;
+      aside = s.aside;
       waits = s.waits;
       unseen = s.unseen;
     } };
@@ -80,6 +85,7 @@ impl Model for Session {
       top = s.top;
       leaves = s.leaves;
       nodes = s.nodes;
+      aside = s.aside;
       waits = s.waits;
       unseen = s.unseen;
     }) };
@@ -110,6 +116,7 @@ impl Session {
             top: None,
             leaves: OpenContainer::new(alloc, Kind::Leaf)?,
             nodes: OpenContainer::new(alloc, Kind::Tree)?,
+            aside: Aside::new(alloc)?,
             waits: false,
             unseen: 0,
         };

@@ -1,20 +1,21 @@
 //! Items that need no step are put in their place.
-ghost use Rattle.std.specs.Prelude.{◌≡◌, ◌⊎◌, ◌<◌, ◌≤◌, false, IfOk, IsSome, OnErr, OnOk, length, None};
+ghost use Rattle.std.specs.Prelude.{◌≡◌, ◌⊎◌, ◌<◌, ◌≤◌, true, false, IfOk, IsSome, OnErr, OnOk, length, None};
 
 use crate::due::Due;
 use crate::line::LONG_LINE;
 use crate::session::Session;
-use container_meta::Kind;
+use container_meta::{Kind, OpenContainer};
 use std::alloc::AllocError;
+use std::mem::replace;
 
 impl Session {
-    ghost use Rattle.ingest_session.specs.State.{IsClosed, turn_node};
-    ghost use Rattle.ingest_session.specs.Due.{due_in, turn_in};
-    ghost use Rattle.ingest_session.specs.History.{Places};
+    ghost use Rattle.ingest_session.specs.State.{HasItem, IsClosed, turn_node};
+    ghost use Rattle.ingest_session.specs.Due.{HasTurn, due_in, needs_no_step, puts_aside, turn_in};
+    ghost use Rattle.ingest_session.specs.History.{KeepsOpen, Places};
     ghost use Rattle.ingest_session.specs.Moving.{IsClosing, IsTurned};
-    ghost use Rattle.ingest_session.specs.Settling.{KeepsOpen, Passes, Settles, seen};
+    ghost use Rattle.ingest_session.specs.Settling.{Passes, Settles, seen};
     ghost use Rattle.ingest_session.specs.Work.{to_do};
-    ghost use Rattle.ingest_session.specs.Told.{IsSettled};
+    ghost use Rattle.ingest_session.specs.Told.{IsPlaced, IsSettled, put_aside, set_aside};
 
     /// Finds out whose turn it is.
     fn take_turn(&mut self)
@@ -101,7 +102,7 @@ impl Session {
     }
 
     /// Tries to put the item whose turn it is in its place.
-    fn pass_one(&mut self) -> Result<bool, AllocError>
+    fn pass_item(&mut self) -> Result<bool, AllocError>
         requires waits { self.old.waits ≡ false }
         ensures ok { IfOk result (λ passed. Passes passed self.old self.new) }
         ensures settles { Settles self.old self.new }
@@ -118,21 +119,81 @@ impl Session {
         self.pass_front()
     }
 
-    /// Puts items in their place, up to one that needs a step. Where an item waits, none is.
+    /// The open container of data is aside, and an empty one in its place; no item waits any more. Where there is no memory, nothing
+    /// changes.
+    fn put_aside(&mut self) -> Result<(), AllocError>
+        requires puts { puts_aside self.old ≡ true }
+        ensures ok { OnOk result (self.new ≡ record (put_aside self.old) { waits = false }) }
+        ensures err { OnErr result (self.new ≡ self.old) }
+    {
+        let empty = OpenContainer::new(self.alloc, Kind::Leaf)?;
+        let filled = replace(&mut self.leaves, empty);
+        self.aside.push(filled);
+        self.waits = false;
+        Ok(())
+    }
+
+    /// Sets the open container of data aside; an item that waited goes into the new one and to its place.
+    fn set_aside(&mut self) -> Result<(), AllocError>
+        requires puts { puts_aside self.old ≡ true }
+        ensures ok { OnOk result (self.new ≡ set_aside self.old) }
+        ensures err { OnErr result (self.new ≡ self.old) }
+    {
+        let waits = self.waits;
+        self.put_aside()?;
+        if waits {
+            self.add(1);
+        }
+        Ok(())
+    }
+
+    /// Tries to set the open container of data aside.
+    fn make_way(&mut self) -> Result<bool, AllocError>
+        requires placed { IsPlaced self.old }
+        ensures less { IfOk result (λ passed. passed ≡ true → to_do self.new < to_do self.old) }
+        ensures settled { IfOk result (λ passed. passed ≡ false → IsSettled self.new) }
+        ensures settles { Settles self.old self.new }
+        ensures seen { seen self.new ≡ seen self.old }
+    {
+        self.sound();
+        if !self.puts_aside() {
+            return Ok(false);
+        }
+        self.set_aside()?;
+        self.sound();
+        Ok(true)
+    }
+
+    /// Tries to put the item whose turn it is in its place, or to set the open container of data aside. An item that waits is left
+    /// where it is.
+    fn pass_one(&mut self) -> Result<bool, AllocError>
+        ensures less { IfOk result (λ passed. passed ≡ true → to_do self.new < to_do self.old) }
+        ensures settled { IfOk result (λ passed. passed ≡ false → IsSettled self.new) }
+        ensures settles { Settles self.old self.new }
+        ensures seen { seen self.new ≡ seen self.old }
+    {
+        self.sound();
+        if self.waits {
+            return self.make_way();
+        }
+        if self.pass_item()? {
+            return Ok(true);
+        }
+        self.make_way()
+    }
+
+    /// Puts items in their place, up to one that needs a step, and sets containers aside that are to be sealed.
     fn settle(&mut self) -> Result<(), AllocError>
         ensures ok { OnOk result (IsSettled self.new) }
         ensures settles { Settles self.old self.new }
         ensures seen { seen self.new ≡ seen self.old }
     {
-        if self.waits {
-            return Ok(());
-        }
         while self.pass_one()? {}
         Ok(())
     }
 
-    /// The step of the store that is due. Items that need none are put in their place before. It fails for want of memory
-    /// alone; some of those items may be in their place then, and `queued` answers as before.
+    /// The step of the store that is due. Items that need none are put in their place before, and containers that are to be sealed are
+    /// set aside. It fails for want of memory alone; some of that may be done then, and `queued` answers as before.
     pub fn due(&mut self) -> Result<Due, AllocError>
         ensures due { IfOk result (λ due. due ≡ due_in self.new) }
         ensures ok { OnOk result (IsSettled self.new) }

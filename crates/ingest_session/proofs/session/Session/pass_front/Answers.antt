@@ -1,4 +1,4 @@
-use Rattle.ingest_session.proofs.Prelude.{◌≡◌, ap, arith, false, true, IsSome, rules, needs_no_step, turn_in, turn_node, Then, PlacedFront, to_do}
+use Rattle.ingest_session.proofs.Prelude.{◌≡◌, ap, arith, true, IsSome, rules, needs_no_step, turn_in, turn_node, Then, PlacedFront, to_do}
 use Rattle.std.proofs.Common.{None}
 use Rattle.ingest_session.proofs.Settled.{settles_closing}
 use Rattle.ingest_session.proofs.Working.{front_is_less, settling_is_no_more}
@@ -25,9 +25,8 @@ returns-clause-settles c =
 pub returns-clause-ok : goal.returns-clause-ok
 returns-clause-ok c =
     let some : IsSome c.close.new.self.ahead = search rules in
-    let waits : c.place_front.new.self.waits ≡ false = search rules in
     let before = settling_is_no_more c.args.self.now c.close.new.self
     (settles_closing c.args.self.now c.reach.new.self c.close.new.self c.reach.ensures.settles c.sound.ensures c.in_ok-close.ensures.ok) in
     let less = front_is_less c.close.new.self 1 some in
     let placed = ap to_do c.place_front.ensures.placed in
-    (omega (arith, before, less, placed), waits)
+    omega (arith, before, less, placed)

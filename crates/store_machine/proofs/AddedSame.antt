@@ -1,8 +1,9 @@
 -- Containers that the machine of files seals, one after the other, that of roots seals, too; and back.
 use Rattle.store_machine.proofs.Prelude.{◌≡◌, ℕ, suc, [], ◌∷◌, length, refl, sym, ◌∙◌, ap, subst, PinMap, free_slots, CanSeal, with_sealed, Forgets, Writing, keeping, part_in, forgotten_beside, keys_of, with_pins}
 use Rattle.std.proofs.Common.{List, take}
+use Rattle.actor_parts.specs.Offers.{sealed_of}
 use Rattle.container_meta.specs.Segments.{Contents}
-use Rattle.store_machine.specs.Offers.{AddsContainer, AddsContainers, sealed_in, sealed_of, stores_with_some, with_container}
+use Rattle.store_machine.specs.Offers.{AddsContainer, AddsContainers, sealed_in, stores_with_some, with_container}
 use Rattle.store_machine.proofs.Parts.{F, G, kept_map, part_at, set_at, writing_back, writing_same}
 
 module _ (m : F) (r : G) (same : Forgets m r) where

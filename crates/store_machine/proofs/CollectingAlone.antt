@@ -1,5 +1,6 @@
 -- The lines of a `collect` keep the names, choose by what they need, and give back only what they don't need.
 use Rattle.store_machine.proofs.Prelude.{◌≡◌, ◌≢◌, ◌⊎◌, ◌<◌, ◌≤◌, inl, inr, ℕ, zero, suc, ListOf, [], ◌∷◌, ◌++◌, length, Contains, Some, None, Result, Ok, Err, refl, sym, ◌∙◌, ap, subst, LAST_ID, RESERVE, Phase, Refusal, LineValue, ReplyValue, Store, free_slots, last_id, StoreChange, Asked, FileMachine, AreBetween, EachOnce, HasContainer, HasIds, sources_in, IsCollecting, freed_in, keys_written, marking, marks_of, Sweeps, Collect, Follows, IsDone, Replied, text_of, Done, Answers, ByState, Does, Legal, RefusesGcStep, RefusesOn, AreDid, Line, reply_of, step_of, Found, Idle, RunState, Running, Sweeping, Stopped, keys_kept, values_read, MayBeFound, Run, of_files}
+use Rattle.std.proofs.lemmas.Option.{same_Some}
 use Rattle.std.specs.FinMap as finite
 use Rattle.refusals.specs.declared.refusal.Phase.TheVariants as phases
 use Rattle.refusals.specs.declared.refusal.Refusal.TheVariants as refusals
@@ -21,7 +22,7 @@ use Rattle.store_machine.proofs.ByNeed.{gives_back}
 use Rattle.store_model.specs.Reserve.{IsReachable}
 use Rattle.store_machine.proofs.Reached.{needs_just}
 use Rattle.store_machine.proofs.Sources.{IsSourced, SourcedAt, Under, all_went, counts_of, none_given, room_first, room_in, sourced_first}
-use Rattle.store_machine.proofs.SweptAlone.{C, ByStage, has_chosen, opened_ids, same_some}
+use Rattle.store_machine.proofs.SweptAlone.{C, ByStage, has_chosen, opened_ids}
 use Rattle.store_machine.proofs.Swept.{none_filled, none_in}
 
 -- steps that went on are between the beginning of a collection and its end
@@ -274,7 +275,7 @@ module _ (percent : ℕ) (start : FileMachine) (opened : Store) where
 
       ended : (a freed copied : ℕ) → EndsCollection of_files freed copied k mid.machine → HasSwept percent freed copied start mid.machine opened
       ended a freed copied ends =
-          let own : u.c ≡ ends.c = same_some u.c ends.c (sym u.ran ∙ ends.ran) in
+          let own : u.c ≡ ends.c = same_Some u.c ends.c (sym u.ran ∙ ends.ran) in
           let sweeps : Sweeps start.now u.c.changes opened mid.machine.store =
           subst (Sweeps start.now u.c.changes opened) (sym (ap (λ (x : FileMachine). x.store) ends.others)) u.tied.sweeps in
           let stage : u.c.stage ≡ Sweeping phases.End ends.s = ap (λ (x : C). x.stage) own ∙ ends.at_end in
@@ -304,7 +305,7 @@ module _ (percent : ℕ) (start : FileMachine) (opened : Store) where
             collected = all_did;
             by_need = λ ids headers.
                 let all = all_did ids in
-                let same : all.c ≡ u.c = same_some all.c u.c (sym all.ran ∙ u.ran) in
+                let same : all.c ≡ u.c = same_Some all.c u.c (sym all.ran ∙ u.ran) in
                 gives_back (IsReachable start.now.names) percent start.now (needs_just start.now) opened mid.machine.store u.c (runs.opened_ids ids) headers chosen sweeps
                 u.sourced.ids sourced.written
                 (λ slot h has source. all.gone slot h has (subst (λ (x : C). Contains (sources_in x) h.id) (sym same) source))

@@ -1,6 +1,7 @@
 -- The steps that the lines of an `ingest` make are such, with the file that was given.
-use Rattle.store_machine.proofs.Prelude.{◌≡◌, ◌⊎◌, inl, inr, ℕ, [], ◌∷◌, ◌++◌, Result, Ok, Err, refl, sym, ◌∙◌, ap, subst, Refusal, LineValue, pushed_bytes, ReplyValue, Asked, AllFollow, AreLinesOf, Follows, Ingest, IsPush, Lines, Replied, given_after, given_by, run_of, Done, Line, Pushes, Session, TurnsStop, reply_of, step_of, Found, Running, desk, of_files}
+use Rattle.store_machine.proofs.Prelude.{◌≡◌, ◌⊎◌, inl, inr, ℕ, [], ◌∷◌, ◌++◌, Result, Ok, Err, refl, sym, ◌∙◌, subst, Refusal, LineValue, pushed_bytes, ReplyValue, Asked, AllFollow, AreLinesOf, Follows, Ingest, IsPush, Lines, Replied, given_after, given_by, run_of, Done, Line, Pushes, Session, TurnsStop, reply_of, step_of, Found, Running, desk, of_files}
 use Rattle.std.proofs.Common.{List}
+use Rattle.std.proofs.lemmas.List.{append-nil}
 use Rattle.script_lines.specs.Grammar as lines
 use Rattle.script_lines.specs.ReplyValue as replies
 use Rattle.store_machine.specs.Asked as asked
@@ -76,10 +77,6 @@ either_fit name (lines.Push a digits) reply ss d e (inl is) line =
 either_fit name line reply ss d e (inr is) made = finish_fit name reply ss d e (subst (λ (l : LineValue). Line of_files l reply ss d e) is made)
 either_fit name line reply ss d e (inl is) made = absurd is
 
-append_none : (xs : List Step) → xs ++ [] ≡ xs
-append_none [] = refl
-append_none (x ∷ xs) = ap (λ (ys : List Step). x ∷ ys) (append_none xs)
-
 module _ (name : List ℕ) (now : Found (List ℕ)) where
   -- of a line that puts no name, whatever file is given at last; of one that does, the file that is given
   abbrev Does : Replied → (given : List ℕ) → D → D → List Step → Type 0
@@ -110,7 +107,7 @@ module _ (name : List ℕ) (now : Found (List ℕ)) where
       → ((line : LineValue) → Follows (Ingest name) one.reply line → ⊥) → AllFollow (Ingest name) one more
       → Lines of_files more later mid e → Good (first ++ later)
   none_left given first later one [] mid e good none follow (is, same) =
-      subst (λ (ys : List Step). Good (first ++ ys)) (sym is) (subst Good (sym (append_none first)) good)
+      subst (λ (ys : List Step). Good (first ++ ys)) (sym is) (subst Good (sym (append-nil first)) good)
   none_left given first later one (x ∷ xs) mid e good none (ends, follows, rest) ran = absurd (none x.line follows)
 
   pub good_all : (rs : List Replied) (prev : Replied) (given : List ℕ) (d e : D) (ss : List Step) → Went now prev.reply given d → AllFollow (Ingest name) prev rs

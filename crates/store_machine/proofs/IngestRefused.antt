@@ -1,6 +1,7 @@
 -- What the lines of an `ingest` come to: what they are refused by, what they add to the store, and what they print.
 use Rattle.store_machine.proofs.Prelude.{◌≡◌, ◌≢◌, ◌⊎◌, inl, inr, ◌≤◌, ◌<◌, ℕ, zero, suc, true, false, [], ◌∷◌, ◌++◌, Option, Some, None, Err, refl, sym, ◌∙◌, ap, subst, AllByRecursion, PinMap, first_unpinned, Kind, KindSegment, Segment, Put, LAST_ID, MOST_NAMES, RESERVE, PartKind, Refusal, LineValue, ReplyValue, Store, StoreChange, with_change, root_key, free_slots, last_id, Asked, AfterOpening, AllFollow, AreLinesOf, EndsRefused, EndsWith, Follows, Ingest, IsDone, IsNotOpened, Lines, MakesRoom, Makes, OnceOpened, Replied, desk, given_after, given_by, last_of, printed, text_of, AddsIn, IsDueOf, HasRoom, LacksNumbers, Refuses, RefusesClaim, RefusesCommit, RefusesSeal, IsDueStep, Line, NothingIsDue, Session, new_session, reply_of, step_of, Found, Running, kind_of, part_in, first_unkept, or_else, Reopens, of_files}
 use Rattle.std.proofs.Common.{List, slice_get, take}
+use Rattle.std.proofs.lemmas.Option.{same_Some}
 use Rattle.std.specs.FinMap as finite
 use Rattle.std.proofs.lemmas.List.{append-nil}
 use Rattle.container_meta.specs.Segments.{Contents}
@@ -22,8 +23,8 @@ use Rattle.store_machine.proofs.IngestLines.{After, Goes, How, Refused, Writes, 
 use Rattle.store_machine.proofs.IngestStore.{IsOther, IsTurn, Rests, committed_leaves, due_is_turn, stays, turn_leaves}
 use Rattle.store_machine.proofs.Ingesting.{D, Kept, Stage, Went, ingests_kept, opened_went, reply_by, run_one}
 use Rattle.store_machine.proofs.Passing.{sure_found}
-use Rattle.store_machine.proofs.Quiet.{F, Step}
-use Rattle.store_machine.proofs.Stepwise.{IsFailure, Opened, Over, ends_from, ends_over, ends_so, last_from, last_is, one_of, opened_by, opened_store}
+use Rattle.store_machine.proofs.Quiet.{F, Step, same_refusal}
+use Rattle.store_machine.proofs.Stepwise.{IsFailure, Opened, Over, ends_from, ends_over, ends_so, last_from, last_is, opened_by, opened_store}
 use Rattle.store_machine.proofs.TwinSteps.{commit_lacks, turn_lacks}
 use Rattle.store_machine.proofs.Storing.{GoesOn, Stores, due_asks, holds_file, new_stores, seal_lacks_piece}
 
@@ -67,9 +68,6 @@ has_taken (suc k) (c ∷ cs) seg (inl here) = inl here
 has_taken (suc k) (c ∷ cs) seg (inr there) = inr (has_taken k cs seg there)
 
 -- ---- what was refused
-
-same_refusal : (a b : Refusal) → replies.Refused a ≡ replies.Refused b → a ≡ b
-same_refusal a b is = cc
 
 module _ (name : List ℕ) (now : Found (List ℕ)) (opened : Store) (given : List ℕ) (line : LineValue) where
   abbrev Cause : F → Refusal → Type 0
@@ -464,7 +462,7 @@ module _ (name : List ℕ) (one : Replied) (more : List Replied) (ss : List Step
           (sym (ap (λ (xs : List Replied). (last_from one xs).reply) not.none ∙ not.is) ∙ clash)) not.fails)
 
 same_last : (one : Replied) (more : List Replied) (other : Replied) → last_of (one ∷ more) ≡ Some other → last_from one more ≡ other
-same_last one more other is = one_of (last_from one more) other (sym (last_is one more) ∙ is)
+same_last one more other is = same_Some (last_from one more) other (sym (last_is one more) ∙ is)
 
 pub ingests_by_map : IngestsByMap
 ingests_by_map name [] ss m e runs lines_are ran =

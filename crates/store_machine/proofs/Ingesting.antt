@@ -1,6 +1,7 @@
 -- The lines of an `ingest` put the file that was given under its name, and do nothing else of the names: what may be found at their end.
 use Rattle.store_machine.proofs.Prelude.{◌≡◌, ◌⊎◌, inl, inr, ◌≤◌, ◌<◌, ◌-◌, ◌^◌, ℕ, Bool, true, false, [], ◌∷◌, ◌++◌, length, slice_index_or, slice_set, Option, Some, None, Result, Ok, Err, refl, sym, ◌∙◌, ap, subst, arith, MOST_FILE, Refusal, LineValue, pushed_bytes, ReplyValue, Store, AllFollow, AreLinesOf, EndsRefused, EndsWith, Follows, Ingest, IsDone, IsPush, Lines, Replied, given_after, given_by, Done, HasRoomFor, IsPut, Answers, ByState, Does, HasNumbers, Legal, MayCommit, Refuses, RefusesCommit, with_name, Acts, Desk, Finishes, Line, Pushes, Session, TurnsStop, all_none, new_session, reply_of, session_of, step_of, unless_refused, Found, RunState, Running, Stopped, MayBeFound, Reopens, freeing, desk, Run, of_files}
 use Rattle.std.proofs.Common.{List}
+use Rattle.std.proofs.lemmas.Option.{same_Some}
 use Rattle.refusals.specs.declared.refusal.Refusal.TheVariants as refusals
 use Rattle.script_lines.specs.Grammar as lines
 use Rattle.script_lines.specs.ReplyValue as replies
@@ -434,14 +435,11 @@ module _ (name : List ℕ) (now : Found (List ℕ)) where
       ];
       same = λ not. ap (λ (y : D). y.machine.now) is ∙ put.same (λ d. not (one, refl, d));
       sure = λ refusal end other. subst (λ (y : D). IsSure y.machine.state) (sym is)
-          (put.sure refusal (ap (λ (x : Replied). x.reply) (one_of one end.0 end.1) ∙ end.2) other);
+          (put.sure refusal (ap (λ (x : Replied). x.reply) (same_Some one end.0 end.1) ∙ end.2) other);
       done = λ end. subst (λ (y : D). IsPut name given now y.machine.now × (y.machine.state ≡ Running)) (sym is)
-          (put.done (subst (λ (x : Replied). IsDone (Ingest name) x.reply) (sym (one_of one end.0 end.1)) end.2));
+          (put.done (subst (λ (x : Replied). IsDone (Ingest name) x.reply) (sym (same_Some one end.0 end.1)) end.2));
     },
   )
-    where
-      one_of : (a b : Replied) → Some a ≡ Some b → a ≡ b
-      one_of a b e = cc
   last_one given one (x ∷ xs) d mid e ss later run ready put commits (ends, follows, rest) ran = absurd (put.last x.line follows)
 
   -- what is so of the lines that are left is so of all, where the first was not done
@@ -451,11 +449,8 @@ module _ (name : List ℕ) (now : Found (List ℕ)) where
     found = λ x may. elim (end.found x may) [ inl still ↦ inl still | inr put ↦ absurd (let wrong : None ≡ Some put.1.0 = put.1.1 in cc) ];
     same = λ _. end.same (λ d. let wrong : None ≡ Some d.0 = d.1 in cc);
     sure = λ _ _ _. sure refl;
-    done = λ d. absurd (undone (subst (λ (x : Replied). IsDone (Ingest name) x.reply) (sym (one_of one d.0 d.1)) d.2));
+    done = λ d. absurd (undone (subst (λ (x : Replied). IsDone (Ingest name) x.reply) (sym (same_Some one d.0 d.1)) d.2));
   }
-    where
-      one_of : (a b : Replied) → Some a ≡ Some b → a ≡ b
-      one_of a b e = cc
   all_of given one (x ∷ xs) n undone sure end = record { found = end.found; same = end.same; sure = end.sure; done = end.done }
 
   -- where no line is left the machine is the one of before

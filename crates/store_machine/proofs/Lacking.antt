@@ -1,6 +1,8 @@
 -- Where what is kept of a file is pinned, a child that lacks its pin has a twin; and so has a root.
-use Rattle.store_machine.proofs.Prelude.{◌≡◌, ◌≢◌, inl, inr, ◌∙◌, ◌≤◌, ℕ, ◌==◌, Bool, true, false, [], ◌∷◌, ◌++◌, length, Option, Some, None, refl, sym, ap, subst, arith, AllByRecursion, MOST_FILE, Kind, KindSegment, Segment, segment_key, ByCount, room_of, MayBeFile, nodes_of, of_segment, tree_of, nodes_are_right, segments_of, are_few, have_right_lengths, lengths_add_up, take_all, Pin, PinMap, pin_by, pin_of, Piece, IsPieceOf, piece_key, piece_segment, root_key, Claim, Nothing, due_in, open_of, History, HasHistory, SessionState, turn_node, IsSettled, of_kind, first_unkept, or_else, HasTwins}
+use Rattle.store_machine.proofs.Prelude.{◌≡◌, ◌≢◌, inl, inr, ◌∙◌, ◌≤◌, ℕ, ◌==◌, Bool, true, false, [], ◌∷◌, ◌++◌, length, Option, Some, None, refl, sym, ap, subst, arith, AllByRecursion, MOST_FILE, Kind, KindSegment, Segment, segment_key, ByCount, room_of, MayBeFile, nodes_of, of_segment, tree_of, nodes_are_right, segments_of, are_few, have_right_lengths, lengths_add_up, take_all, Pin, PinMap, pin_by, pin_of, Piece, IsPieceOf, piece_key, piece_segment, root_key, Claim, Nothing, due_in, History, HasHistory, SessionState, turn_node, IsSettled, of_kind, first_unkept, or_else, HasTwins}
 use Rattle.std.proofs.Common.{if◌then◌else◌, List, append-nil}
+use Rattle.std.proofs.lemmas.Option.{same_Some}
+use Rattle.container_meta.specs.Segments.{Contents}
 use Rattle.container_meta.specs.declared.kind.Kind.TheVariants.{Leaf, Tree}
 use Rattle.merkle_file.specs.Node as node
 use Rattle.merkle_file.proofs.RootLaws.{spellings_tell_nodes}
@@ -11,14 +13,18 @@ use Rattle.actor_parts.specs.PinMap.{is_pin, has_pin}
 use Rattle.actor_parts.specs.Segments.{KeyPin, children_by, children_of, first_not_in, node_segment}
 use Rattle.store_model.specs.Pieces.{Data, HasPieceOf, Node, nodes_of_file, piece_bytes}
 use Rattle.store_model.specs.Trees.{root_of}
+use Rattle.ingest_session.specs.Due.{offered_in, segments_of_all}
 use Rattle.ingest_session.specs.Facts.{IsKept, IsKeptChild}
 use Rattle.ingest_session.specs.Moving.{IsItem}
 use Rattle.ingest_session.proofs.Ends.{all_is_kept, bytes_are_counted}
 use Rattle.ingest_session.proofs.Facts.{children_come_first, open_nodes_have_children}
 use Rattle.ingest_session.proofs.KeptPieces.{data_piece, kept_pieces, node_piece}
-use Rattle.ingest_session.proofs.Waiting.{claimed_turn}
+use Rattle.ingest_session.proofs.SealsSome.{offer_kinds}
+use Rattle.ingest_session.proofs.Waiting.{claimed_turn, on_and_off, session_of}
 use Rattle.store_machine.specs.Legal as legal
+use Rattle.store_machine.specs.Offers.{AllSegments, first_unkept_in}
 use Rattle.store_machine.specs.Twins.{IsOfGiven}
+use Rattle.store_machine.proofs.OfOneKind.{each_of}
 use Rattle.store_machine.proofs.Pins.{HasPinOf}
 use Rattle.store_machine.proofs.RootPieces.{HasRootPiece, root_piece}
 
@@ -27,13 +33,6 @@ same_number n = grind arith
 
 is_itself : (pin : Pin) → is_pin pin (Some pin) ≡ true
 is_itself pin = rw (same_number pin.level, same_number pin.length) refl
-
-yes_and_no : (b : Bool) → b ≡ true → b ≡ false → ⊥
-yes_and_no true on off = cc
-yes_and_no false on off = cc
-
-some_key : (a b : List ℕ) → Some a ≡ Some b → a ≡ b
-some_key a b is = cc
 
 -- ---- two pieces of one key
 
@@ -129,7 +128,7 @@ module _ (s : SessionState) (h : History) (has : HasHistory s h) where
         let z = pinned kind x kept in
         two_pieces h.given s.ended ((bytes_are_counted s h has).1) (of_kind kind x) (of_kind z.0 z.1) (kept_piece kind x kept) (kept_piece z.0 z.1 z.2)
         (λ more follow. (kept_pieces kind x s h more has follow kept, kept_pieces z.0 z.1 s h more has follow z.2)) (sym z.3)
-        (λ same. yes_and_no (has_pin pins (segment_key kind x) (pin_by kind x))
+        (λ same. on_and_off (has_pin pins (segment_key kind x) (pin_by kind x))
         (ap (is_pin (pin_by kind x)) (z.4 ∙ ap (λ (pin : Pin). Some pin) (sym same)) ∙ is_itself (pin_by kind x)) unpinned)
 
     child_twins : (c : KeyPin) → IsKeptChild h c → has_pin pins c.key c.pin ≡ false → Twins c.key
@@ -146,7 +145,7 @@ module _ (s : SessionState) (h : History) (has : HasHistory s h) where
         by_test : (b : Bool) → has_pin pins c.key c.pin ≡ b → (first_not_in pins cs ≡ Some key → Twins key) → Twins key
         by_test true same further = further (sym (ap (λ (b : Bool). if b then first_not_in pins cs else Some c.key) same) ∙ is)
         by_test false other further =
-            subst Twins (some_key c.key key (sym (ap (λ (b : Bool). if b then first_not_in pins cs else Some c.key) other) ∙ is)) (child_twins c all.0 other)
+            subst Twins (same_Some c.key key (sym (ap (λ (b : Bool). if b then first_not_in pins cs else Some c.key) other) ∙ is)) (child_twins c all.0 other)
 
     all_unpinned_twins : (kind : Kind) (xs : List Segment) (key : List ℕ) → AllByRecursion (λ x. AllByRecursion (IsKeptChild h) (children_by kind x)) xs
         → first_unkept kind xs pins ≡ Some key → Twins key
@@ -173,16 +172,30 @@ module _ (s : SessionState) (h : History) (has : HasHistory s h) where
         unpinned_twins (children_of seg) key
         (item_children (turn_node s) s.queue seg is (λ n node_is. children_come_first s h n has (sym (claimed_turn s settled due) ∙ node_is) due)) unpinned
 
+    -- so it is with what is offered to be sealed
+    pub all_lack : (cs : List Contents) (key : List ℕ) → AllSegments (λ kind x. AllByRecursion (IsKeptChild h) (children_by kind x)) cs
+        → first_unkept_in cs pins ≡ Some key → Twins key
+    all_lack [] key all is = absurd cc
+    all_lack (c ∷ cs) key (one, more) is = by_first (first_unkept c.kind c.segments pins) refl (all_lack cs key more)
+      where
+        by_first : (o : Option (List ℕ)) → first_unkept c.kind c.segments pins ≡ o → (first_unkept_in cs pins ≡ Some key → Twins key) → Twins key
+        by_first None none further = further (sym (ap (λ (o : Option (List ℕ)). or_else o (first_unkept_in cs pins)) none) ∙ is)
+        by_first (Some k) found further =
+            all_unpinned_twins c.kind c.segments key one (found ∙ sym (ap (λ (o : Option (List ℕ)). or_else o (first_unkept_in cs pins)) found) ∙ is)
+
     none_below : (xs : List Segment) → AllByRecursion (λ x. AllByRecursion (IsKeptChild h) (children_by Leaf x)) xs
     none_below [] = tt
     none_below (x ∷ xs) = (tt, none_below xs)
 
-    open_children : (kind : Kind) → AllByRecursion (λ x. AllByRecursion (IsKeptChild h) (children_by kind x)) (open_of s kind).segments
-    open_children Leaf = none_below s.leaves.segments
-    open_children Tree = open_nodes_have_children s h has
+    offered_children : (kind : Kind) → AllByRecursion (λ x. AllByRecursion (IsKeptChild h) (children_by kind x)) (segments_of_all (offered_in s kind))
+    offered_children Leaf = none_below (segments_of_all (offered_in s Leaf))
+    offered_children Tree =
+        subst (AllByRecursion (λ x. AllByRecursion (IsKeptChild h) (children_by Tree x))) (sym (append-nil s.nodes.segments)) (open_nodes_have_children s h has)
 
-    pub seal_twins : (kind : Kind) (key : List ℕ) → first_unkept kind (open_of s kind).segments pins ≡ Some key → Twins key
-    seal_twins kind key unpinned = all_unpinned_twins kind (open_of s kind).segments key (open_children kind) unpinned
+    pub seal_twins : (kind : Kind) (key : List ℕ) → first_unkept_in (offered_in s kind) pins ≡ Some key → Twins key
+    seal_twins kind key unpinned =
+        all_lack (offered_in s kind) key
+        (each_of (λ k x. AllByRecursion (IsKeptChild h) (children_by k x)) kind (offered_in s kind) (offer_kinds s kind (session_of s h has)) (offered_children kind)) unpinned
 
     -- ---- the root that a name is to have
 

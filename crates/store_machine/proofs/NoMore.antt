@@ -1,6 +1,7 @@
 -- What the content of a disk adds is so of each step of the machine of files: it adds no more than that needs.
 use Rattle.store_machine.proofs.Prelude.{◌≡◌, inl, inr, ◌<◌, ℕ, suc, [], ◌∷◌, ◌++◌, length, Some, None, option_map, Result, Ok, Err, refl, sym, ◌∙◌, ap, subst, arith, AllByRecursion, Kind, Segment, Root, PartKind, Phase, Refusal, Store, IsSpare, FreesTo, FlushContainer, FreeContainer, Asked, GoesOn, GoesOver, IsRecordOf, MayBreak, Done, Forgets, SameNow, SamePart, SameState, forget_collection, Answers, ByState, Does, GivesBytes, LegalBy, Refuses, RefusesOn, RefusesRead, Collection, Found, Reading, RunState, Running, Stopped, Sweep, Sweeping, part_in, IsNeeded, NamesNeed, Reopens, freeing, AddsBy, AddsToAnswer, AddsToDone, AddsToOpening, AddsToPhase, AddsToRefused, AddsToStep, ComesNext, StaysAt, of_files, of_roots}
 use Rattle.std.proofs.Common.{List}
+use Rattle.std.proofs.lemmas.Option.{same_Some}
 use Rattle.std.proofs.lemmas.List.{append-nil, append_cancel_left}
 use Rattle.refusals.specs.declared.refusal.Phase.TheVariants as phases
 use Rattle.refusals.specs.declared.refusal.Refusal.TheVariants as refusals
@@ -39,9 +40,6 @@ freed_roots stores (Stopped other before) = refl
 
 one_of : {A : Type 0} (a b : A) → a ∷ [] ≡ b ∷ [] → a ≡ b
 one_of a b same = cc
-
-some_of : {A : Type 0} (a b : A) → Some a ≡ Some b → a ≡ b
-some_of a b same = cc
 
 sweep_of : (p q : Phase) (s t : Sweep) → Sweeping p s ≡ Sweeping q t → s ≡ t
 sweep_of p q s t same = cc
@@ -115,12 +113,12 @@ module _ (m n : F) (r t : G) (was : Forgets m r) (now : Forgets n t) where
 
   step_adds : (phase : Phase) → GoesOn of_files phase m n → AddsToStep phase m t
   step_adds phase g c d ran then =
-      let c_is : g.c ≡ c = some_of g.c c (sym g.ran ∙ ran) in
+      let c_is : g.c ≡ c = same_Some g.c c (sym g.ran ∙ ran) in
       let left : Collection (List ℕ) = record c { stage = g.went.stage; recorded = g.went.recorded; changes = c.changes ++ g.went.changes } in
       let n_is : n.collection ≡ Some left =
       ap (λ (x : F). x.collection) g.others
       ∙ ap (λ (x : Collection (List ℕ)). Some (record x { stage = g.went.stage; recorded = g.went.recorded; changes = x.changes ++ g.went.changes })) c_is in
-      let d_is : d ≡ forget_collection left = some_of d (forget_collection left) (sym then ∙ now.collection ∙ ap (option_map forget_collection) n_is) in
+      let d_is : d ≡ forget_collection left = same_Some d (forget_collection left) (sym then ∙ now.collection ∙ ap (option_map forget_collection) n_is) in
       phase_adds c d g.went (ap (λ (x : Collection Root). x.stage) d_is) (ap (λ (x : Collection Root). x.recorded) d_is) (ap (λ (x : Collection Root). x.changes) d_is)
       (now.forgotten ∙ ap (λ (x : F). x.forgotten) g.others) phase (subst (λ (x : Collection (List ℕ)). Goes of_files phase x m g.went) c_is g.goes)
 

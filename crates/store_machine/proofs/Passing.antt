@@ -5,7 +5,7 @@ use Rattle.store_machine.specs.Asked as asked
 use Rattle.store_machine.specs.Done as done
 use Rattle.store_machine.specs.ByMap.{IsFoundAt}
 use Rattle.store_machine.specs.Runs.{IsPassedFrom}
-use Rattle.store_machine.proofs.Quiet.{IsSure, running_sure, F, Goes, IsQuiet, Step, due_is_quiet, step_done}
+use Rattle.store_machine.proofs.Quiet.{IsSure, running_sure, F, Goes, IsQuiet, Step, due_is_quiet, stays, step_done}
 
 -- ---- lists of steps
 
@@ -63,9 +63,6 @@ turns_ok a (x ∷ xs) s t (actor, due, (answer, told, more)) =
 
 -- ---- steps that store nothing
 
-stays_so : (m n : F) → m.state ≡ Running → n ≡ m → Goes m n
-stays_so m n runs is = record { now = ap (λ (x : F). x.now) is; state = ap (λ (x : F). x.state) is ∙ runs }
-
 puts_part : (a : ℕ) (part : _) (m n : F) → m.state ≡ Running → n ≡ put_at m a part → Goes m n
 puts_part a part m n runs is = record { now = ap (λ (x : F). x.now) is; state = ap (λ (x : F). x.state) is ∙ runs }
 
@@ -73,11 +70,11 @@ puts_part a part m n runs is = record { now = ap (λ (x : F). x.now) is; state =
 reads_go : (a : ℕ) (step : Asked (List ℕ)) (answer : Done) (m n : F) → IsRead step → m.state ≡ Running → Does of_files a step answer m n → Goes m n
 reads_go a (asked.OpenRead name) (done.Opened count) m n read runs (named, idle, (value, rest, has, starts, count_is, others)) = puts_part a (Reading value rest) m n runs others
 reads_go a asked.ReadNext (done.Bytes bytes) m n read runs (value, rest, after, was, gives, others) = puts_part a (Reading value after) m n runs others
-reads_go a asked.ReadNext done.End m n read runs (value, rest, was, ends, others) = stays_so m n runs others
+reads_go a asked.ReadNext done.End m n read runs (value, rest, was, ends, others) = stays m n runs others
 reads_go a asked.EndRead done.Dropped m n read runs (was, others) = puts_part a Idle m n runs others
 reads_go a asked.Abort done.Aborted m n read runs (was, others) = puts_part a Idle m n runs others
-reads_go a asked.ListNames (done.Listed files) m n read runs (is, others) = stays_so m n runs others
-reads_go a asked.Stat (done.Counted files segments bytes used free) m n read runs (is, others) = stays_so m n runs others
+reads_go a asked.ListNames (done.Listed files) m n read runs (is, others) = stays m n runs others
+reads_go a asked.Stat (done.Counted files segments bytes used free) m n read runs (is, others) = stays m n runs others
 reads_go a (asked.GcStart percent) (done.Started snapshot) m n read runs (none, is, others) =
     record { now = ap (λ (x : F). x.now) others; state = ap (λ (x : F). x.state) others ∙ runs }
 reads_go a asked.GcStep (done.Did phase) m n read runs goes = record { now = ap (λ (x : F). x.now) goes.others; state = ap (λ (x : F). x.state) goes.others ∙ runs }

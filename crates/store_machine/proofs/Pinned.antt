@@ -1,13 +1,13 @@
 -- All that is kept of what an actor gives it has pinned: so it is as more is given, and after each turn.
-use Rattle.store_machine.proofs.Prelude.{◌≡◌, inl, inr, ◌∙◌, ℕ, Bool, true, false, [], ◌∷◌, ◌++◌, Some, refl, sym, ap, subst, Kind, KindSegment, Segment, segment_key, segments_of, Answer, PinMap, first_unpinned, pin_of, root_key, Claim, Nothing, due_in, open_of, IsDueFor, History, HasHistory, SessionState, turn_node, IsSettled, of_kind, IsIn, Session, new_session, first_unkept, with_pins, HasTwins}
-use Rattle.std.proofs.Common.{List, append_assoc}
+use Rattle.store_machine.proofs.Prelude.{◌≡◌, inl, inr, ◌∙◌, ℕ, Bool, true, false, [], ◌∷◌, ◌++◌, Some, refl, sym, ap, subst, Kind, KindSegment, Segment, segment_key, segments_of, Answer, PinMap, first_unpinned, pin_of, root_key, Claim, Nothing, due_in, IsDueFor, History, HasHistory, SessionState, turn_node, IsSettled, of_kind, Session, new_session, HasTwins}
+use Rattle.std.proofs.Common.{List, append_assoc, take}
 use Rattle.std.specs.FinMap as finite
-use Rattle.container_meta.specs.declared.kind.Kind.TheVariants.{Leaf, Tree}
+use Rattle.container_meta.specs.Segments.{Contents}
 use Rattle.actor_parts.specs.declared.step.Answer.TheVariants as answers
 use Rattle.store_model.specs.Trees.{root_of}
 use Rattle.ingest_session.specs.declared.due.Due.{Due}
 use Rattle.ingest_session.specs.declared.due.Due.TheVariants.{Seal}
-use Rattle.ingest_session.specs.Due.{item_kind}
+use Rattle.ingest_session.specs.Due.{item_kind, offered_in, segments_of_all}
 use Rattle.ingest_session.specs.Facts.{IsKept, MayFollow}
 use Rattle.ingest_session.specs.History.{answered}
 use Rattle.ingest_session.specs.Items.{item_of}
@@ -15,10 +15,14 @@ use Rattle.ingest_session.specs.Moving.{IsOffered}
 use Rattle.ingest_session.specs.Told.{IsAnswerFor}
 use Rattle.ingest_session.proofs.KeptOn.{KeptBy, after_kept, here_kept, kept_after, kept_here, none_kept}
 use Rattle.ingest_session.proofs.KeptPieces.{held_kept, item_in, item_is, kept_absent, kept_held, kept_sealed, kept_still, one_item, sealed_kept}
-use Rattle.ingest_session.proofs.Waiting as waiting
+use Rattle.ingest_session.proofs.Members.{all_of}
+use Rattle.ingest_session.proofs.SealsSome.{offer_kinds}
+use Rattle.ingest_session.proofs.Waiting.{session_of}
 use Rattle.store_machine.specs.Legal as legal
+use Rattle.store_machine.specs.Offers.{AllSegments, first_unkept_in}
+use Rattle.store_machine.proofs.OfOneKind.{AreOf, all_taken, each_of, one_of_all}
 use Rattle.store_machine.proofs.Lacking.{claim_twins, root_twins, seal_twins}
-use Rattle.store_machine.proofs.Pins.{HasPinOf, next_pin, last_pin, pin_still, pins_more, pins_still}
+use Rattle.store_machine.proofs.Pins.{HasPinOf, last_pin, next_pin, pin_still, pins_come, pins_stay, with_pins_in}
 
 -- However the file goes on, the key of each segment that is kept has the pin of one that is.
 pub record Pinned (s : Session) (pins : PinMap) : Type 0 where
@@ -66,20 +70,15 @@ module _ (s : SessionState) (h : History) (has : HasHistory s h) (pins : PinMap)
   pub claim_lacks : IsSettled s → due_in s ≡ Claim → (seg : KindSegment) → IsOffered s seg → (key : List ℕ) → first_unpinned seg pins ≡ Some key → Twins key
   claim_lacks settled due seg offered key unpinned = claim_twins s h has pins kept_pinned settled due seg offered.is key unpinned
 
-  open_kind : (kind : Kind) → (open_of s kind).kind ≡ kind
-  open_kind Leaf = (waiting.session_of s h has).data_kind
-  open_kind Tree = (waiting.session_of s h has).tree_kind
-
-  pub seal_lacks : (kind : Kind) (key : List ℕ) → first_unkept (open_of s kind).kind (open_of s kind).segments pins ≡ Some key → Twins key
-  seal_lacks kind key unpinned =
-      seal_twins s h has pins kept_pinned kind key (subst (λ (k : Kind). first_unkept k (open_of s kind).segments pins ≡ Some key) (open_kind kind) unpinned)
+  pub seal_lacks : (kind : Kind) (key : List ℕ) → first_unkept_in (offered_in s kind) pins ≡ Some key → Twins key
+  seal_lacks kind key unpinned = seal_twins s h has pins kept_pinned kind key unpinned
 
   pub root_lacks : s.ended ≡ true → due_in s ≡ Nothing → ¬ (legal.IsKept pins (root_of h.given)) → Twins (root_key (root_of h.given))
   root_lacks ended due unkept = root_twins s h has pins kept_pinned ended due unkept
 
   -- ---- after an answer
 
-  module _ (answer : Answer) (settled : IsSettled s) (right : IsAnswerFor answer (due_in s)) where
+  module _ (answer : Answer) (settled : IsSettled s) (right : IsAnswerFor answer s) where
     abbrev pub next : Session
     next = record { given = h.given; ended = s.ended; answers = h.answers ++ answer ∷ [] }
 
@@ -97,13 +96,13 @@ module _ (s : SessionState) (h : History) (has : HasHistory s h) (pins : PinMap)
           (λ k y kept. now k y (kept_still s h k y answer (here_kept s h more has follow k y kept)))
           (pinned.each more follow kind x (kept_here s h more has follow kind x is))
 
-  pub absent_pinned : (settled : IsSettled s) (right : IsAnswerFor answers.Absent (due_in s)) → Pinned (next answers.Absent settled right) pins
+  pub absent_pinned : (settled : IsSettled s) (right : IsAnswerFor answers.Absent s) → Pinned (next answers.Absent settled right) pins
   absent_pinned settled right = record {
     each = λ more follow kind x is.
         before answers.Absent settled right more follow kind x (kept_absent s h kind x (after_kept s h more has follow answers.Absent settled right kind x is));
   }
 
-  pub held_pinned : (settled : IsSettled s) (right : IsAnswerFor answers.Held (due_in s)) (seg : KindSegment) → IsOffered s seg
+  pub held_pinned : (settled : IsSettled s) (right : IsAnswerFor answers.Held s) (seg : KindSegment) → IsOffered s seg
       → Pinned (next answers.Held settled right) (finite.insert pins (segment_key seg.kind seg.segment) (pin_of seg))
   held_pinned settled right seg offered = record { each = each }
     where
@@ -129,21 +128,26 @@ module _ (s : SessionState) (h : History) (has : HasHistory s h) (pins : PinMap)
                 last_pin K seg.kind seg.segment mine pins (segment_key kind x) (ap (λ (y : KindSegment). segment_key y.kind y.segment) (sym same))
           ]
 
-  pub sealed_pinned : (id : ℕ) (mine : Kind) (settled : IsSettled s) (right : IsAnswerFor (answers.Sealed id) (due_in s)) → due_in s ≡ Seal mine
-      → Pinned (next (answers.Sealed id) settled right) (with_pins (open_of s mine).kind (open_of s mine).segments pins)
-  sealed_pinned id mine settled right due = record { each = each }
+  pub sealed_pinned : (id count : ℕ) (mine : Kind) (settled : IsSettled s) (right : IsAnswerFor (answers.Sealed id count) s) → due_in s ≡ Seal mine
+      → Pinned (next (answers.Sealed id count) settled right) (with_pins_in (take count (offered_in s mine)) pins)
+  sealed_pinned id count mine settled right due = record { each = each }
     where
-      each : (more : List ℕ) → MayFollow more s → (kind : Kind) (x : Segment) → KeptBy (segments_of (h.given ++ more)) (h.answers ++ answers.Sealed id ∷ []) kind x
-          → HasPinOf (KeptBy (segments_of (h.given ++ more)) (h.answers ++ answers.Sealed id ∷ [])) (with_pins (open_of s mine).kind (open_of s mine).segments pins)
-          (segment_key kind x)
+      taken : List Contents
+      taken = take count (offered_in s mine)
+
+      kinds : AreOf mine taken
+      kinds = all_taken (λ c. c.kind ≡ mine) count (offered_in s mine) (offer_kinds s mine (session_of s h has))
+
+      each : (more : List ℕ) → MayFollow more s → (kind : Kind) (x : Segment) → KeptBy (segments_of (h.given ++ more)) (h.answers ++ answers.Sealed id count ∷ []) kind x
+          → HasPinOf (KeptBy (segments_of (h.given ++ more)) (h.answers ++ answers.Sealed id count ∷ [])) (with_pins_in taken pins) (segment_key kind x)
       each more follow kind x is =
-          let K = KeptNow (answers.Sealed id) settled right more follow in
-          let all : (y : Segment) → IsIn y (open_of s mine).segments → K mine y =
-          λ y there. now (answers.Sealed id) settled right more follow mine y (sealed_kept s h mine y id due there) in
-          subst (λ (k : Kind). HasPinOf K (with_pins k (open_of s mine).segments pins) (segment_key kind x)) (sym (open_kind mine))
-          (elim (kept_sealed s h kind x id mine due (after_kept s h more has follow (answers.Sealed id) settled right kind x is)) [
-            | inl was ↦ pins_still K mine (open_of s mine).segments pins (segment_key kind x) all (before (answers.Sealed id) settled right more follow kind x was)
+          let K = KeptNow (answers.Sealed id count) settled right more follow in
+          let all : AllSegments K taken =
+          each_of K mine taken kinds
+          (all_of (K mine) (segments_of_all taken) (λ y there. now (answers.Sealed id count) settled right more follow mine y (sealed_kept s h mine y id count due there))) in
+          elim (kept_sealed s h kind x id count mine due (after_kept s h more has follow (answers.Sealed id count) settled right kind x is)) [
+            | inl was ↦ pins_stay K taken pins (segment_key kind x) all (before (answers.Sealed id count) settled right more follow kind x was)
             | inr now ↦
-                subst (λ (k : Kind). HasPinOf K (with_pins mine (open_of s mine).segments pins) (segment_key k x)) (sym now.0)
-                (pins_more K mine (open_of s mine).segments pins all x now.1)
-          ])
+                subst (λ (k : Kind). HasPinOf K (with_pins_in taken pins) (segment_key k x)) (sym now.0)
+                (one_of_all (λ k y. HasPinOf K (with_pins_in taken pins) (segment_key k y)) mine taken kinds (pins_come K taken pins all) x now.1)
+          ]

@@ -1,10 +1,12 @@
 -- Which keys are pinned, with what is said of a segment that is kept: where more are.
-use Rattle.store_machine.proofs.Prelude.{◌≡◌, ◌∙◌, ℕ, zero, suc, Bool, true, false, cond, [], ◌∷◌, Some, refl, sym, ap, slice_cmp, nat_list_cmp_total, nat_cmp, eq_by_cmp, PinMap, pin_by, Kind, Segment, segment_key, IsIn, with_pins}
+use Rattle.store_machine.proofs.Prelude.{◌≡◌, ◌∙◌, ℕ, Bool, true, false, cond, [], ◌∷◌, Some, refl, sym, ap, slice_cmp, nat_list_cmp_total, nat_cmp, eq_by_cmp, AllByRecursion, PinMap, pin_by, Kind, Segment, segment_key, with_pins}
 use Rattle.std.proofs.Common.{List}
 use Rattle.std.specs.FinMap as finite
 use Rattle.std.proofs.lemmas.Slice.Eq.{bytes_eq-Decides}
-use Rattle.ingest_session.proofs.Members.{in_none, in_rest}
+use Rattle.container_meta.specs.Segments.{Contents}
+use Rattle.ingest_session.proofs.Members.{all_then}
 use Rattle.store_model.proofs.Indexing.{tied}
+use Rattle.store_machine.specs.Offers.{AllSegments}
 
 -- the key has the pin of a segment of which K holds
 abbrev pub HasPinOf : (Kind → Segment → Type 0) → PinMap → List ℕ → Type 0
@@ -50,15 +52,31 @@ module _ (K : Kind → Segment → Type 0) (kind : Kind) where
         )
 
   -- so it is with segments, one after the other
-  pub pins_still : (xs : List Segment) (pins : PinMap) (key : List ℕ) → ((x : Segment) → IsIn x xs → K kind x) → HasPinOf K pins key → HasPinOf K (with_pins kind xs pins) key
+  pub pins_still : (xs : List Segment) (pins : PinMap) (key : List ℕ) → AllByRecursion (K kind) xs → HasPinOf K pins key → HasPinOf K (with_pins kind xs pins) key
   pins_still [] pins key kept has = has
-  pins_still (x ∷ xs) pins key kept has =
-      pins_still xs (with_pin x (kept x (0, refl)) pins) key (λ y is. kept y (in_rest y x xs is)) (next_pin x (kept x (0, refl)) pins key has)
+  pins_still (x ∷ xs) pins key (one, more) has = pins_still xs (with_pin x one pins) key more (next_pin x one pins key has)
 
-  pub pins_more : (xs : List Segment) (pins : PinMap) → ((x : Segment) → IsIn x xs → K kind x) → (x : Segment) → IsIn x xs →
-      HasPinOf K (with_pins kind xs pins) (segment_key kind x)
-  pins_more [] pins kept x is = absurd (in_none x is)
-  pins_more (y ∷ ys) pins kept x (zero, is) =
-      pins_still ys (with_pin y (kept y (0, refl)) pins) (segment_key kind x) (λ z there. kept z (in_rest z y ys there))
-      (last_pin y (kept y (0, refl)) pins (segment_key kind x) (ap (segment_key kind) (let same : y ≡ x = cc in same)))
-  pins_more (y ∷ ys) pins kept x (suc i, is) = pins_more ys (with_pin y (kept y (0, refl)) pins) (λ z there. kept z (in_rest z y ys there)) x (i, is)
+  pub pins_more : (xs : List Segment) (pins : PinMap) → AllByRecursion (K kind) xs → AllByRecursion (λ x. HasPinOf K (with_pins kind xs pins) (segment_key kind x)) xs
+  pins_more [] pins kept = tt
+  pins_more (x ∷ xs) pins (one, more) =
+      (pins_still xs (with_pin x one pins) (segment_key kind x) more (last_pin x one pins (segment_key kind x) refl), pins_more xs (with_pin x one pins) more)
+
+-- and with containers
+abbrev pub with_pins_in : List Contents → PinMap → PinMap
+with_pins_in [] pins = pins
+with_pins_in (c ∷ cs) pins = with_pins_in cs (with_pins c.kind c.segments pins)
+
+module _ (K : Kind → Segment → Type 0) where
+  pub pins_stay : (cs : List Contents) (pins : PinMap) (key : List ℕ) → AllSegments K cs → HasPinOf K pins key → HasPinOf K (with_pins_in cs pins) key
+  pins_stay [] pins key kept has = has
+  pins_stay (c ∷ cs) pins key (all, more) has =
+      pins_stay cs (with_pins c.kind c.segments pins) key more (pins_still K c.kind c.segments pins key all has)
+
+  pub pins_come : (cs : List Contents) (pins : PinMap) → AllSegments K cs → AllSegments (λ kind x. HasPinOf K (with_pins_in cs pins) (segment_key kind x)) cs
+  pins_come [] pins kept = tt
+  pins_come (c ∷ cs) pins (all, more) =
+      let next = with_pins c.kind c.segments pins in (
+        all_then (λ x. HasPinOf K next (segment_key c.kind x)) (λ x. HasPinOf K (with_pins_in cs next) (segment_key c.kind x)) c.segments
+            (λ x. pins_stay cs next (segment_key c.kind x) more) (pins_more K c.kind c.segments pins all),
+        pins_come cs next more,
+      )

@@ -4,6 +4,7 @@ use Rattle.std.proofs.Common.{List, take}
 use Rattle.container_meta.specs.Segments.{Contents}
 use Rattle.ingest_session.specs.declared.due.Due.TheVariants as dues
 use Rattle.refusals.specs.declared.refusal.Refusal.TheVariants as refusals
+use Rattle.script_lines.specs.ReplyValue as replies
 use Rattle.store_machine.specs.Asked as asked
 use Rattle.store_machine.specs.Done as done
 use Rattle.store_machine.proofs.Added.{each_added}
@@ -42,7 +43,7 @@ pub record Goes (m n : F) : Type 0 where
 pub quiet_of : (m n : F) → Goes m n → Quiet m n
 quiet_of m n goes = record { now = goes.now; state = running_sure n.state goes.state }
 
-stays : (m n : F) → m.state ≡ Running → n ≡ m → Goes m n
+pub stays : (m n : F) → m.state ≡ Running → n ≡ m → Goes m n
 stays m n runs is = record { now = ap (λ (x : F). x.now) is; state = ap (λ (x : F). x.state) is ∙ runs }
 
 pub does_go : (a : ℕ) (step : Asked (List ℕ)) (answer : Done) (m n : F) → IsQuiet step → m.state ≡ Running → Does of_files a step answer m n → Goes m n
@@ -136,6 +137,10 @@ due_is_quiet s step (dues.Nothing, is, asks) = absurd asks
 pub told_ok : (told : Result Done Refusal) (answer : Answer) → answer_of told ≡ Some answer → (d : Done) × (told ≡ Ok d)
 told_ok (Ok d) answer is = (d, refl)
 told_ok (Err refusal) answer is = absurd (let wrong : None ≡ Some answer = is in cc)
+
+-- a reply tells its refusal
+pub same_refusal : (a b : Refusal) → replies.Refused a ≡ replies.Refused b → a ≡ b
+same_refusal a b is = cc
 
 -- turns change no name, and go on; what was given stays
 pub record Turned (s t : Session) (m n : F) : Type 0 where

@@ -1,6 +1,8 @@
 -- A collection that runs, step by step: what held of it since it began holds after each step; and at its end it has done what it selected.
 use Rattle.store_machine.proofs.Prelude.{◌≡◌, ◌≢◌, ◌⊎◌, ◌↔◌, ◌<◌, ◌≤◌, ◌+◌, inl, inr, ⊎_elim, ℕ, zero, suc, [], ◌∷◌, ◌++◌, get_or, length, Contains, Some, refl, sym, ◌∙◌, ap, subst, arith, true, nat_lt, Bool, false, cases_eq, Contains-append_cases, Contains-append_left, Contains-push, Contains-push_cases, AllByRecursion, Kind, Segment, segment_key, HeaderValue, header_of, ContainerLiveness, Phase, Store, first_free, free_slots, with_slot, FlushContainer, FreeContainer, StoreChange, EachOnce, HasIds, IsWrittenBy, TakesKey, Chooses, Copies, Flushes, GoesOver, Makes, last_by, Marks, Records, Releases, freed_in, keys_written, marking, next_of, no_sweep, sources_in, Collection, Machine, Marking, Recording, Sweeping, Sweep, keys_of, Values}
 use Rattle.std.proofs.Common.{List, ◌&&◌}
+use Rattle.std.proofs.lemmas.List.{append-nil}
+use Rattle.std.proofs.lemmas.Option.{same_Some}
 use Rattle.std.proofs.lemmas.Bool.{ltb-true}
 use Rattle.std.proofs.lemmas.List.Elements.{Contains-append_right, Contains-get_or}
 use Rattle.std.proofs.lemmas.List.{length_push}
@@ -116,9 +118,6 @@ abbrev IsCopying : Stage → Type 0
 IsCopying (Sweeping phases.Copy s) = Unit {0}
 IsCopying stage = ⊥
 
-same_some : {X : Type 0} (a b : X) → Some a ≡ Some b → a ≡ b
-same_some a b is = cc
-
 and_first : (a b : Bool) → (a && b) ≡ true → a ≡ true
 and_first true b is = refl
 and_first false b is = is
@@ -151,7 +150,7 @@ module _ {V R : Type 0} where
 
   taken_copying : (k n : Machine V R) (c : Collection V) (key : List ℕ) → k.collection ≡ Some c → TakesKey k n key → IsCopying c.stage
   taken_copying k n c key ran takes =
-      subst (λ (x : Collection V). IsCopying x.stage) (same_some takes.before c (sym takes.ran ∙ ran)) (subst IsCopying (sym takes.was) tt)
+      subst (λ (x : Collection V). IsCopying x.stage) (same_Some takes.before c (sym takes.ran ∙ ran)) (subst IsCopying (sym takes.was) tt)
 
   -- what a step of the collection makes of the machine
   pub record Steps (k n : Machine V R) (c : Collection V) (w : Went) : Type 0 where
@@ -236,7 +235,7 @@ module _ {V R : Type 0} where
 
       takes_there : (key : List ℕ) → TakesKey k n key → Contains t.filled key
       takes_there key x =
-          let same : x.after ≡ after = same_some x.after after (sym x.runs ∙ steps.runs) in
+          let same : x.after ≡ after = same_Some x.after after (sym x.runs ∙ steps.runs) in
           let sweep : Sweeping x.next x.t ≡ Sweeping next t = sym x.is ∙ ap (λ (y : Collection V). y.stage) same ∙ is in
           subst (λ (y : Sweep). Contains y.filled key) (let one : x.t ≡ t = cc in one) x.taken
 
@@ -361,7 +360,7 @@ module _ {V R : Type 0} where
         let so : SweepsSince (sources_in c) since.gone phases.Flush s = subst (AtStage c since.gone) was since.stage in
         let written : keys_written (c.changes ++ w.changes) ≡ keys_written c.changes ++ s.filled =
         ap (λ (ch : List StoreChange). keys_written (c.changes ++ ch)) changes ∙ written_more c.changes (FlushContainer (suc k.last_id) kind segments ∷ [])
-        ∙ ap (λ (ks : List (List ℕ)). keys_written c.changes ++ ks) (append_none (keys_of kind segments) ∙ keys) in
+        ∙ ap (λ (ks : List (List ℕ)). keys_written c.changes ++ ks) (append-nil (keys_of kind segments) ∙ keys) in
         let apart : (key : List ℕ) → Contains s.filled key → ¬ (Contains (keys_written c.changes) key) =
         λ key one. none_of kind (keys_written c.changes) segments _ (held known) key (subst (λ (ks : List (List ℕ)). Contains ks key) (sym keys) one) in
         record {
@@ -385,10 +384,6 @@ module _ {V R : Type 0} where
               (sym recorded) (swept_now s t t_is so));
         }
       where
-        append_none : (xs : List (List ℕ)) → xs ++ [] ≡ xs
-        append_none [] = refl
-        append_none (x ∷ xs) = ap (λ (l : List (List ℕ)). x ∷ l) (append_none xs)
-
         plus_none : (a : ℕ) → a + 0 ≡ a
         plus_none a = omega arith
 
@@ -449,7 +444,7 @@ module _ {V R : Type 0} where
         let so : SweepsSince (sources_in c) since.gone phases.Release s = subst (AtStage c since.gone) was since.stage in
         let source : Contains (sources_in c) id = so.from id (inr (inr (subst (λ (ids : List ℕ). Contains ids id) (sym ready) (0, omega arith, refl)))) in
         let written : keys_written (c.changes ++ w.changes) ≡ keys_written c.changes =
-        ap (λ (ch : List StoreChange). keys_written (c.changes ++ ch)) changes ∙ written_more c.changes (FreeContainer slot ∷ []) ∙ no_keys (keys_written c.changes) in
+        ap (λ (ch : List StoreChange). keys_written (c.changes ++ ch)) changes ∙ written_more c.changes (FreeContainer slot ∷ []) ∙ append-nil (keys_written c.changes) in
         let filled : filled_at w.stage ≡ filled_at c.stage = ap filled_at next ∙ ap (λ (x : Sweep). x.filled) t_is ∙ sym (ap filled_at was) in
         record {
           ran = steps.runs;
@@ -479,10 +474,6 @@ module _ {V R : Type 0} where
               (swept_now s id rest ready source so)));
         }
       where
-        no_keys : (xs : List (List ℕ)) → xs ++ [] ≡ xs
-        no_keys [] = refl
-        no_keys (x ∷ xs) = ap (λ (l : List (List ℕ)). x ∷ l) (no_keys xs)
-
         old_source : (id : ℕ) → Contains (sources_in c) id → id ≤ m.last_id
         old_source id source =
             let one : IsSelectedId c.snapshot c.percent c.recorded id = (chosen_which c.snapshot c.percent c.recorded (sources_in c) refl id).0 source in

@@ -1,6 +1,7 @@
 -- Names with the roots of their files are as many, and are listed the same.
 use Rattle.store_machine.proofs.Prelude.{◌≡◌, ◌≤◌, ℕ, suc, Bool, true, false, cond, [], ◌∷◌, length, map, Option, Some, None, option_map, is_some, refl, sym, ◌∙◌, ap, subst, nat_list_cmp_total, slice_cmp, nat_cmp, eq_by_cmp, Root, MOST_FILE, SameNow, listing, with_name, without_name, Found, of_files, of_roots}
 use Rattle.std.proofs.Common.{Ordering, List, T}
+use Rattle.std.proofs.lemmas.Option.{same_Some}
 use Rattle.std.specs.Prelude.{◌&&◌}
 use Rattle.std.specs.Ordering.{is_lt}
 use Rattle.std.specs.FinMap as finite
@@ -129,10 +130,7 @@ module _ (files : Found (List ℕ)) (roots : Found Root) (same : SameNow files r
 
   few_put : (b : Bool) (file other : List ℕ) (o : Option (List ℕ)) → length file ≤ MOST_FILE → (o ≡ Some other → length other ≤ MOST_FILE) → cond b (Some file) o ≡ Some other
       → length other ≤ MOST_FILE
-  few_put true file other o few rest is = subst (λ (bytes : List ℕ). length bytes ≤ MOST_FILE) (some_is file other is) few
-    where
-      some_is : (a b : List ℕ) → Some a ≡ Some b → a ≡ b
-      some_is a b e = cc
+  few_put true file other o few rest is = subst (λ (bytes : List ℕ). length bytes ≤ MOST_FILE) (same_Some file other is) few
   few_put false file other o few rest is = rest is
 
   pub put_same : (name file : List ℕ) → length file ≤ MOST_FILE → SameNow (with_name of_files name file files) (with_name of_roots name (root_of file) roots)

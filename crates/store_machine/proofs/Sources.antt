@@ -1,6 +1,7 @@
 -- A collection, no other step of which comes between: which containers it copied from and gives back, and the ids of those that it wrote.
 use Rattle.store_machine.proofs.Prelude.{◌≡◌, ◌≢◌, ◌⊎◌, ◌+◌, ◌<◌, ◌≤◌, inl, inr, ⊎_elim, ℕ, zero, suc, Bool, true, false, nat_lt, ListOf, [], ◌∷◌, ◌++◌, get_or, length, Contains, Option, Some, None, option_map, Result, Ok, refl, sym, ◌∙◌, ap, subst, arith, Contains-append_cases, Contains-push_cases, Entry, Kind, Segment, HeaderValue, Phase, Refusal, Store, last_id, FlushContainer, FreeContainer, StoreChange, Asked, FileMachine, Gathered, GoesOn, GoesOver, Makes, TakesAll, TakesOne, keys_written, last_by, marking, next_of, sources_in, Sweeps, Done, ByState, Legal, AreDid, Found, RunState, Running, Marking, Recording, Sweep, Sweeping, NamesNeed, keys_of, Run, of_files}
 use Rattle.std.proofs.Common.{slice_get}
+use Rattle.std.proofs.lemmas.Option.{same_Some}
 use Rattle.std.proofs.lemmas.Bool.{ltb-true}
 use Rattle.std.proofs.lemmas.Grind.{get_or_default_zero}
 use Rattle.std.proofs.lemmas.Slice.Eq.{bytes_eq-Decides}
@@ -27,7 +28,7 @@ use Rattle.store_machine.specs.Machine.{Stage}
 use Rattle.store_machine.proofs.Counted.{few_written, free_within, frees_then, takes_then, written_then}
 use Rattle.store_machine.proofs.Moved.{spares_of, still_newest}
 use Rattle.store_machine.proofs.Stepwise.{Step}
-use Rattle.store_machine.proofs.SweptAlone.{ByStage, C, Tied, names_need, same_some, tied_on}
+use Rattle.store_machine.proofs.SweptAlone.{ByStage, C, Tied, names_need, tied_on}
 use Rattle.store_machine.proofs.Swept.{head_of, in_cases, in_tail, none_in, written_more}
 
 -- ---- keys
@@ -472,7 +473,7 @@ pub record Under (percent : ℕ) (now : Found (ListOf ℕ)) (opened : Store) (m 
 module _ (percent : ℕ) (now : Found (ListOf ℕ)) (opened : Store) where
   goes_on : (m : FileMachine) → Under percent now opened m → (phase : Phase) (n : FileMachine) → GoesOn of_files phase m n → Under percent now opened n
   goes_on m u phase n goes =
-      let own : u.c ≡ goes.c = same_some u.c goes.c (sym u.ran ∙ goes.ran) in
+      let own : u.c ≡ goes.c = same_Some u.c goes.c (sym u.ran ∙ goes.ran) in
       let so : (d : C) → u.c ≡ d → Sourced opened m.store m.last_id d = (λ d is. subst (Sourced opened m.store m.last_id) is u.sourced) in
       let tied : Tied percent now opened m.store goes.c = subst (Tied percent now opened m.store) own u.tied in
       record {

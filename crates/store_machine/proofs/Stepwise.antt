@@ -1,5 +1,6 @@
 -- Commands of which each line is one step of the first actor: what is so after each line, and so at the end.
 use Rattle.store_machine.proofs.Prelude.{◌≡◌, ◌⊎◌, inl, inr, ◌<◌, ℕ, true, false, ListOf, [], ◌∷◌, ◌++◌, length, Option, Some, None, Result, Ok, Err, refl, sym, ◌∙◌, ap, subst, arith, Refusal, LineValue, ReplyValue, FreesTo, Store, last_id, Asked, AfterOpening, FileMachine, IsNotOpened, MakesRoom, OnceOpened, AllFollow, AreLinesOf, Command, EndsRefused, EndsWith, Follows, IsDone, Lines, Replied, desk, last_of, printed, text_of, Done, Answers, ByState, Legal, Bars, Desk, Line, Session, actor_of, all_none, kind_at, kind_by, reply_of, session_of, step_of, takes, unless_refused, Found, Part, Idle, RunState, Running, Stopped, Stepped, all_idle, kind_of, part_in, NamesNeed, MayBeFound, MayRefuseOpening, Reopens, freeing, Run, of_files}
+use Rattle.std.proofs.lemmas.Option.{same_Some}
 use Rattle.std.proofs.lemmas.List.{append-nil, append_assoc}
 use Rattle.refusals.specs.declared.refusal.Refusal.TheVariants as refusals
 use Rattle.script_lines.specs.Grammar as lines
@@ -26,15 +27,12 @@ abbrev pub last_from : Replied → ListOf Replied → Replied
 last_from prev [] = prev
 last_from prev (one ∷ more) = last_from one more
 
-pub one_of : (a b : Replied) → Some a ≡ Some b → a ≡ b
-one_of a b is = cc
-
 pub last_is : (one : Replied) (more : ListOf Replied) → last_of (one ∷ more) ≡ Some (last_from one more)
 last_is one [] = refl
 last_is one (next ∷ more) = last_is next more
 
 pub ends_so : (P : Replied → Type 0) (one : Replied) (more : ListOf Replied) → EndsWith P (one ∷ more) → P (last_from one more)
-ends_so P one more (last, is, holds) = subst P (one_of last (last_from one more) (sym is ∙ last_is one more)) holds
+ends_so P one more (last, is, holds) = subst P (same_Some last (last_from one more) (sym is ∙ last_is one more)) holds
 
 pub ends_from : (P : Replied → Type 0) (one : Replied) (more : ListOf Replied) → P (last_from one more) → EndsWith P (one ∷ more)
 ends_from P one more holds = (last_from one more, last_is one more, holds)

@@ -1,6 +1,7 @@
 -- A collection, no other step of which comes between: what it recorded and changed since the store was opened.
 use Rattle.store_machine.proofs.Prelude.{◌≡◌, ◌≤◌, inl, inr, ⊎_elim, ℕ, zero, suc, ListOf, [], ◌∷◌, ◌++◌, Contains, Option, Some, None, sym, ◌∙◌, ap, subst, arith, AllByRecursion, Contains-push_cases, Entry, Kind, Segment, segment_key, HeaderValue, ContainerLiveness, ids_of, Phase, FreesTo, with_freed, Store, IsSpare, last_id, ChangeName, FlushContainer, FreeContainer, SealContainer, StoreChange, there_before, FileMachine, MakesRoom, HasContainer, HasIds, Gathered, IsRecordOf, Makes, TakesAll, TakesOne, ids_before, keys_written, marking, Sweeps, Collection, Found, Marking, Recording, Sweep, Sweeping, HasCopy, IsNeeded, NamesNeed, keys_of, of_files}
 use Rattle.std.proofs.Common.{slice_get}
+use Rattle.ingest_session.proofs.Lists.{all_and_one}
 use Rattle.std.specs.FinMap as finite
 use Rattle.refusals.specs.declared.refusal.Phase.TheVariants as phases
 use Rattle.store_model.specs.Needed.{SumsNeeded}
@@ -87,10 +88,6 @@ recorded_of now c store r values keys is = record {
     from : (key : ListOf ℕ) → NamesNeed of_files now key → NeededSince of_files c key
     from key needs = inl (subst (λ (vs : ListOf (ListOf ℕ)). OneNeeds of_files vs key) (sym values) needs)
 
-all_push : (P : ContainerLiveness → Type 0) (rs : ListOf ContainerLiveness) (r : ContainerLiveness) → AllByRecursion P rs → P r → AllByRecursion P (rs ++ r ∷ [])
-all_push P [] r all one = (one, tt)
-all_push P (x ∷ xs) r (first, all) one = (first, all_push P xs r all one)
-
 -- ---- a collection that runs, the names being these, since the store was opened
 
 -- nothing is changed before the sources are chosen, by what was recorded of all
@@ -108,9 +105,6 @@ pub record Tied (percent : ℕ) (now : Found (ListOf ℕ)) (opened store : Store
   pub records : AllByRecursion (IsRecorded now opened) c.recorded
   pub stage : ByStage opened c c.stage
   pub filled : (key : ListOf ℕ) → Contains (filled_at c.stage) key → NamesNeed of_files now key
-
-pub same_some : (a b : C) → Some a ≡ Some b → a ≡ b
-same_some a b is = cc
 
 -- at its end
 pub has_chosen : (percent : ℕ) (now : Found (ListOf ℕ)) (opened store : Store) (c : C) (next : Phase) (s : Sweep) → Tied percent now opened store c → c.stage ≡ Sweeping next s
@@ -246,7 +240,7 @@ module _ (percent : ℕ) (now : Found (ListOf ℕ)) (opened : Store) (m : FileMa
       let unchanged : c.changes ≡ [] = subst (ByStage opened c) was tied.stage in
       let one : IsRecorded now opened r =
       subst (λ (s : Store). IsRecorded now s r) (store_is unchanged) (recorded_of now c m.store r tied.values_are tied.keys_are record_is) in (
-        subst (AllByRecursion (IsRecorded now opened)) (sym recorded) (all_push (IsRecorded now opened) c.recorded r tied.records one),
+        subst (AllByRecursion (IsRecorded now opened)) (sym recorded) (all_and_one (IsRecorded now opened) c.recorded r tied.records one),
         subst (ByStage opened (after w)) (sym is) (none_yet w unchanged none),
       )
   records_so phases.Select w (was, all, is, (recorded, none, forgotten)) =

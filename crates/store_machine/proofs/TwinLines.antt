@@ -1,6 +1,7 @@
 -- In lines a segment lacks a pin only where there are twins.
 use Rattle.store_machine.proofs.Prelude.{◌≡◌, ◌⊎◌, ◌<◌, ◌≤◌, inl, inr, ◌∙◌, ℕ, zero, suc, Bool, true, false, [], ◌∷◌, ◌++◌, length, slice_index_or, slice_set, replicate, Option, Some, None, Result, Ok, Err, refl, sym, ap, subst, arith, cases_lt, get_or-set_other, get_or_past, length-set, ACTORS, Top, Refusal, LineValue, pushed_bytes, ReplyValue, Asked, Lines, Replied, desk, Done, Does, Legal, RefusesOn, Acts, AreDid, AreTurns, NothingIsDue, Bars, Desk, IsDueStep, Session, TurnsStop, all_none, kind_at, kind_by, new_session, reply_of, session_of, step_of, takes, unless_refused, Machine, Part, Idle, Writing, Stepped, kind_of, part_in, MayRefuseOpening, Reopens, Run, HasTwins, Values, of_files, of_roots}
 use Rattle.std.proofs.Common.{List, if◌then◌else◌}
+use Rattle.std.proofs.lemmas.Option.{same_Some}
 use Rattle.std.specs.FinMap as finite
 use Rattle.std.proofs.lemmas.List.{get_or-replicate, length-replicate, set-get_or}
 use Rattle.refusals.specs.declared.refusal.PartKind.TheVariants as kinds
@@ -15,13 +16,11 @@ use Rattle.store_machine.specs.Lines.{Admits, Ends, IsStep, Says, StopsAfter}
 use Rattle.store_machine.specs.Twins.{GivesTwins, UnpinnedByTwins, UnpinnedHasTwins}
 use Rattle.store_machine.proofs.IngestStore.{IsRefusal, unrefused}
 use Rattle.store_machine.proofs.Pinned.{new_pinned, pinned_ended, pinned_more}
-use Rattle.store_machine.proofs.TwinSteps.{Beside, WentOn, Writes, beside_here, beside_on, commit_lacks, due_opens, keeps_beside, lacks_of, puts_beside, same_some, turn_lacks, turns_on, writes_on}
+use Rattle.store_machine.proofs.Quiet.{same_refusal}
+use Rattle.store_machine.proofs.TwinSteps.{Beside, WentOn, Writes, beside_here, beside_on, commit_lacks, due_opens, keeps_beside, lacks_of, puts_beside, turn_lacks, turns_on, writes_on}
 use Rattle.store_machine.proofs.Writers.{IsNoOpening, IsOther, KeepsWriters, apart_writers, does_of, no_opening, other_keeps, puts, refused_keeps, same_or_not, was_set, within, writers_here, writers_on}
 
 -- ---- replies
-
-same_refusal : (a b : Refusal) → replies.Refused a ≡ replies.Refused b → a ≡ b
-same_refusal a b is = cc
 
 none_left : (sessions : List (Option Session)) (a : ℕ) → slice_index_or (all_none sessions) a None ≡ None
 none_left [] a = refl
@@ -174,7 +173,7 @@ module _ {V R : Type 0} (v : Values V R) where
         → e.sessions ≡ slice_set d.sessions a o → Kept d e reply
     kept_stopped t o stopped left sessions = record {
       holds = put_holds d e a o holds sessions stopped.beside
-          (λ x is. subst (Writes e.machine a) (same_some t x (sym (left stopped.refused.0 stopped.refused.1) ∙ is)) stopped.writes);
+          (λ x is. subst (Writes e.machine a) (same_Some t x (sym (left stopped.refused.0 stopped.refused.1) ∙ is)) stopped.writes);
       lacks = stopped.lacks;
     }
 
@@ -191,7 +190,7 @@ module _ {V R : Type 0} (v : Values V R) where
         record {
           holds = put_holds d e a (Some t) holds (sessions ∙ ap (λ (r : ReplyValue). slice_set d.sessions a (Some (unless_refused r (record t { given = t.given ++ bytes }) t)))
               long)
-              went.beside (λ x is. subst (Writes e.machine a) (same_some t x is) went.writes);
+              went.beside (λ x is. subst (Writes e.machine a) (same_Some t x is) went.writes);
           lacks = no_lack d reply (replies.Refused refusals.TooLong) long long_not;
         }
     pushed bytes t off sessions (inl (turns, inl (count, is))) =
@@ -201,7 +200,7 @@ module _ {V R : Type 0} (v : Values V R) where
         record { pins = went.writes.pins; is = went.writes.is; pinned = pinned_more t went.writes.pins bytes (went.ended ∙ off) went.writes.pinned } in
         record {
           holds = put_holds d e a (Some after) holds (sessions ∙ ap (λ (r : ReplyValue). slice_set d.sessions a (Some (unless_refused r after t))) is)
-              went.beside (λ x same. subst (Writes e.machine a) (same_some after x same) now);
+              went.beside (λ x same. subst (Writes e.machine a) (same_Some after x same) now);
           lacks = no_lack d reply (replies.Pushed a count) is (λ key wrong. absurd (let no : replies.Pushed a count ≡ replies.Refused (refusals.Unpinned key) = wrong in cc));
         }
 
@@ -212,7 +211,7 @@ module _ {V R : Type 0} (v : Values V R) where
         record {
           holds = put_holds d e a (Some s) holds (sessions ∙ ap (λ (r : ReplyValue). slice_set d.sessions a (Some (unless_refused r (record s { ended = true }) s))) memory)
               (beside_here a d.machine e.machine same)
-              (λ x is. subst (Writes e.machine a) (same_some s x is) (writes_on d.machine e.machine a s (writers_here d.machine e.machine same) w));
+              (λ x is. subst (Writes e.machine a) (same_Some s x is) (writes_on d.machine e.machine a s (writers_here d.machine e.machine same) w));
           lacks = no_lack d reply (replies.Refused refusals.Memory) memory memory_not;
         }
     finished off sessions none (inl (count, is)) =
@@ -222,7 +221,7 @@ module _ {V R : Type 0} (v : Values V R) where
         let now : Writes e.machine a after = record { pins = still.pins; is = still.is; pinned = pinned_ended s still.pins off still.pinned } in
         record {
           holds = put_holds d e a (Some after) holds (sessions ∙ ap (λ (r : ReplyValue). slice_set d.sessions a (Some (unless_refused r after s))) is)
-              (beside_here a d.machine e.machine same) (λ x there. subst (Writes e.machine a) (same_some after x there) now);
+              (beside_here a d.machine e.machine same) (λ x there. subst (Writes e.machine a) (same_Some after x there) now);
           lacks = no_lack d reply (replies.Finished a count) is (λ key wrong. absurd (let no : replies.Finished a count ≡ replies.Refused (refusals.Unpinned key) = wrong in cc));
         }
 
@@ -232,7 +231,7 @@ module _ {V R : Type 0} (v : Values V R) where
     turn_told t step (Ok answer) is turns by sessions =
         let went = turns_made ss t e.machine turns run in
         record {
-          holds = put_holds d e a (Some t) holds sessions went.beside (λ x same. subst (Writes e.machine a) (same_some t x same) went.writes);
+          holds = put_holds d e a (Some t) holds sessions went.beside (λ x same. subst (Writes e.machine a) (same_Some t x same) went.writes);
           lacks = no_lack d reply (reply_of a (Ok answer)) by (done_not a answer);
         }
     turn_told t step (Err refusal) is turns by sessions = absurd (not_told (subst (λ (xs : List (Stepped V)). AreTurns v a xs s t) is turns))
@@ -245,7 +244,7 @@ module _ {V R : Type 0} (v : Values V R) where
         let here : e.machine ≡ d.machine = run_as [] none in
         record {
           holds = put_holds d e a (Some t) holds sessions (beside_here a d.machine e.machine here)
-              (λ x there. subst (Writes e.machine a) (sym same ∙ same_some t x there) (writes_on d.machine e.machine a s (writers_here d.machine e.machine here) w));
+              (λ x there. subst (Writes e.machine a) (sym same ∙ same_Some t x there) (writes_on d.machine e.machine a s (writers_here d.machine e.machine here) w));
           lacks = no_lack d reply (replies.Turn a turns.Idle) is (λ key wrong. absurd (let no : replies.Turn a turns.Idle ≡ replies.Refused (refusals.Unpinned key) = wrong in cc));
         }
 
@@ -391,7 +390,7 @@ module _ {V R : Type 0} (v : Values V R) where
           by_place : (a < length d.machine.parts) ⊎ (length d.machine.parts ≤ a) → Holds e
           by_place (inl below) =
               put_holds d e a (Some new_session) holds set beside
-              (λ x is. subst (Writes e.machine a) (same_some new_session x is) (record { pins = finite.empty; is = here below; pinned = new_pinned }))
+              (λ x is. subst (Writes e.machine a) (same_Some new_session x is) (record { pins = finite.empty; is = here below; pinned = new_pinned }))
           by_place (inr past) = record {
             sessions = ap length set ∙ length-set d.sessions a (Some new_session) ∙ holds.sessions;
             parts = beside.many ∙ holds.parts;

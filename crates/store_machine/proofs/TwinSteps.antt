@@ -1,6 +1,7 @@
 -- What the steps of a session leave pinned, and where one of them lacks a pin.
-use Rattle.store_machine.proofs.Prelude.{◌≡◌, ◌≢◌, ◌<◌, ◌∙◌, ℕ, true, [], ◌∷◌, ◌++◌, length, slice_set, Some, Result, Ok, Err, sym, ap, subst, Answer, PinMap, pin_of, KindSegment, segment_key, open_of, IsDueFor, Refusal, root_key, Asked, Done, ByState, Claims, Does, Legal, RefusesOn, Seals, AreTurns, IsDueStep, NothingIsDue, Session, answer_of, Machine, Part, RunState, Running, Stopped, Stepped, Writing, part_in, with_pins, Run, HasTwins, Values}
-use Rattle.std.proofs.Common.{List}
+use Rattle.store_machine.proofs.Prelude.{◌≡◌, ◌≢◌, ◌<◌, ◌≤◌, ◌∙◌, ℕ, true, [], ◌∷◌, ◌++◌, length, slice_set, Some, Result, Ok, Err, sym, ap, subst, Answer, PinMap, pin_of, KindSegment, segment_key, IsDueFor, Refusal, root_key, Asked, Done, ByState, Claims, Does, Legal, RefusesOn, Seals, AreTurns, IsDueStep, NothingIsDue, Session, answer_of, Machine, Part, RunState, Running, Stopped, Stepped, Writing, part_in, with_pins, Run, HasTwins, Values}
+use Rattle.std.proofs.Common.{List, take}
+use Rattle.std.proofs.lemmas.Option.{same_Some}
 use Rattle.std.specs.FinMap as finite
 use Rattle.actor_parts.specs.declared.step.Answer.TheVariants as answers
 use Rattle.container_meta.specs.Segments.{Contents}
@@ -10,14 +11,12 @@ use Rattle.store_model.specs.Trees.{root_of}
 use Rattle.store_machine.specs.Asked as asked
 use Rattle.store_machine.specs.Done as done
 use Rattle.store_machine.specs.Legal.{IsKept}
-use Rattle.store_machine.specs.Offers.{first_unkept_in}
-use Rattle.store_machine.proofs.Added.{seals_alone, unkept_alone}
+use Rattle.store_machine.specs.Offers.{AddsContainers, first_unkept_in}
+use Rattle.store_machine.proofs.Added.{seals_few}
 use Rattle.store_machine.proofs.Pinned.{Pinned, absent_pinned, claim_lacks, held_pinned, root_lacks, same_told, seal_lacks, sealed_pinned, told_of}
+use Rattle.store_machine.proofs.Pins.{with_pins_in}
 use Rattle.store_machine.proofs.Quiet.{told_ok}
 use Rattle.store_machine.proofs.Writers.{IsNoOpening, KeepsWriters, by_state, does_of, puts}
-
-pub same_some : {A : Type 0} (x y : A) → Some x ≡ Some y → x ≡ y
-same_some x y is = cc
 
 module _ {V R : Type 0} where
   -- an actor that gives a file writes, and has pinned what is kept of it
@@ -51,6 +50,18 @@ module _ {V R : Type 0} where
 
   same_pins : (a b : PinMap) → (p : Part V R) → p ≡ Writing a → p ≡ Writing b → a ≡ b
   same_pins a b p one two = let both : Writing a ≡ Writing b = sym one ∙ two in cc
+
+  -- containers that are sealed, one after the other
+  containers_added : (a : ℕ) (cs : List Contents) (m n : Machine V R) → a < length m.parts → (pins : PinMap) → part_in m a ≡ Writing pins → AddsContainers a cs m n
+      → (part_in n a ≡ Writing (with_pins_in cs pins)) × Beside a m n
+  containers_added a [] m n within pins was is = (ap (λ (x : Machine V R). part_in x a) is ∙ was, beside_here a m n is)
+  containers_added a (c ∷ cs) m n within pins was (mid, one, rest) =
+      let parts : mid.parts ≡ slice_set m.parts a (Writing (with_pins c.kind c.segments one.pins)) = ap (λ (x : Machine V R). x.parts) one.others in
+      let put = puts a _ m mid parts in
+      let now : part_in mid a ≡ Writing (with_pins c.kind c.segments pins) =
+      put.here within ∙ ap (λ (p : PinMap). Writing (with_pins c.kind c.segments p)) (same_pins one.pins pins (part_in m a) one.writing was) in
+      let more = containers_added a cs mid n (subst (λ (k : ℕ). a < k) (sym put.many) within) (with_pins c.kind c.segments pins) now rest in
+      (more.0, beside_on a m mid n (puts_beside a _ m mid parts) more.1)
 
   -- ---- a turn that was made
 
@@ -95,20 +106,24 @@ module _ {V R : Type 0} where
     absent_turned seg (dues.Seal kind, is, asks) same = absurd asks
     absent_turned seg (dues.Nothing, is, asks) same = absurd asks
 
-    sealed_turned : (offered : List Contents) (id count : ℕ) → IsDueStep v s (asked.Seal offered) → Seals v a offered id count m n → Turned (answers.Sealed id)
+    sealed_turned : (offered : List Contents) (id count : ℕ) → IsDueStep v s (asked.Seal offered) → Seals v a offered id count m n → Turned (answers.Sealed id count)
     sealed_turned offered id count (dues.Seal kind, is, offered_is) does =
-        let one = (seals_alone v a (open_of is.session kind) id count m n (subst (λ (cs : List Contents). Seals v a cs id count m n) offered_is does)).0 in
-        writes_now (dues.Seal kind) is one.pins _ (answers.Sealed id) one.writing (ap (λ (x : Machine V R). x.parts) one.others)
-        (λ same. subst (λ (pins : PinMap). Pinned (record (told_of is.session is.history) { answers = is.history.answers ++ answers.Sealed id ∷ [] })
-        (with_pins (open_of is.session kind).kind (open_of is.session kind).segments pins)) same
-        (sealed_pinned is.session is.history is.has w.pins (here (dues.Seal kind) is) id kind is.settled (kind, is.due_is) is.due_is))
+        let added = containers_added a (take count offered) m n within w.pins w.is does.adds in
+        let pinned : Pinned (record (told_of is.session is.history) { answers = is.history.answers ++ answers.Sealed id count ∷ [] }) (with_pins_in (take count offered) w.pins) =
+        subst (λ (cs : List Contents). Pinned (record (told_of is.session is.history) { answers = is.history.answers ++ answers.Sealed id count ∷ [] })
+        (with_pins_in (take count cs) w.pins)) (sym offered_is)
+        (sealed_pinned is.session is.history is.has w.pins (here (dues.Seal kind) is) id count kind is.settled
+        (kind, is.due_is, does.some, subst (λ (cs : List Contents). count ≤ length cs) offered_is (seals_few v a offered id count m n does)) is.due_is) in
+        let now : Writes n a (record s { answers = s.answers ++ answers.Sealed id count ∷ [] }) =
+        record { pins = with_pins_in (take count offered) w.pins; is = added.0; pinned = there (dues.Seal kind) is _ (answers.Sealed id count) pinned } in
+        (now, added.1)
     sealed_turned offered id count (dues.Claim, is, asks) does = absurd asks
     sealed_turned offered id count (dues.Nothing, is, asks) does = absurd asks
 
     pub turned : (step : Asked V) (answer : Done) (told : Answer) → IsDueStep v s step → answer_of (Ok answer) ≡ Some told → Does v a step answer m n → Turned told
-    turned (asked.Claim seg) done.Held told due is does = subst Turned (same_some answers.Held told is) (held_turned seg due does)
-    turned (asked.Claim seg) done.Absent told due is (keeps, lacks, others) = subst Turned (same_some answers.Absent told is) (absent_turned seg due others)
-    turned (asked.Seal offered) (done.Sealed id count) told due is does = subst Turned (same_some (answers.Sealed id) told is) (sealed_turned offered id count due does)
+    turned (asked.Claim seg) done.Held told due is does = subst Turned (same_Some answers.Held told is) (held_turned seg due does)
+    turned (asked.Claim seg) done.Absent told due is (keeps, lacks, others) = subst Turned (same_Some answers.Absent told is) (absent_turned seg due others)
+    turned (asked.Seal offered) (done.Sealed id count) told due is does = subst Turned (same_Some (answers.Sealed id count) told is) (sealed_turned offered id count due does)
     turned (asked.Claim seg) answer told due is does = absurd does
     turned (asked.Seal offered) answer told due is does = absurd does
     turned step answer told (dues.Claim, by, asks) is does = absurd asks
@@ -131,7 +146,7 @@ module _ {V R : Type 0} where
     turn_lacks (asked.Seal offered) key (dues.Seal kind, is, offered_is) ((pins, was, lacks), others) =
         twins_of (dues.Seal kind) is key
         (seal_lacks is.session is.history is.has pins (pins_are (dues.Seal kind) is key pins was) kind key
-        (sym (unkept_alone (open_of is.session kind) pins) ∙ subst (λ (cs : List Contents). first_unkept_in cs pins ≡ Some key) offered_is lacks))
+        (subst (λ (cs : List Contents). first_unkept_in cs pins ≡ Some key) offered_is lacks))
     turn_lacks (asked.Claim seg) key (dues.Seal kind, is, asks) refuses = absurd asks
     turn_lacks (asked.Claim seg) key (dues.Nothing, is, asks) refuses = absurd asks
     turn_lacks (asked.Seal offered) key (dues.Claim, is, asks) refuses = absurd asks

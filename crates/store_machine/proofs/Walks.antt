@@ -1,6 +1,7 @@
 -- A file that is read by its segments is read by the tree of its root: what comes next of the one comes next of the other.
 use Rattle.store_machine.proofs.Prelude.{◌≡◌, ℕ, ◌+◌, ◌≤◌, ◌==◌, Bool, true, false, [], ◌∷◌, ◌++◌, length, map, Ok, refl, sym, ◌∙◌, ap, subst, arith, AllByRecursion, MOST_FILE, Top, IsNode, Trees, Empty, leaves, of_segment, start_of, segments_of, Rests, top_of}
 use Rattle.std.proofs.Common.{if◌then◌else◌, List, drop}
+use Rattle.std.proofs.lemmas.List.{append-nil}
 use Rattle.std.proofs.lemmas.Bool.{eqb-true}
 use Rattle.std.proofs.lemmas.List.Concat.{flat_map-cons}
 use Rattle.merkle_file.specs.Node.{Contents, spelling}
@@ -152,14 +153,10 @@ start_of_tree Empty right = refl
 start_of_tree (Leaf segment) right = start_some (root_of of_segment (Leaf segment)) (omega (arith, right.0))
 start_of_tree (Node level ts) right = start_some (root_of of_segment (Node level ts)) (omega (arith, right.0.0.above))
 
-append_none : (xs : List (List ℕ)) → xs ++ [] ≡ xs
-append_none [] = refl
-append_none (x ∷ xs) = ap (λ (ys : List (List ℕ)). x ∷ ys) (append_none xs)
-
 segments_of_tree : (t : Tree (List ℕ)) → segments_in (trees_in t) ≡ leaves t
 segments_of_tree Empty = refl
 segments_of_tree (Leaf segment) = flat_map-cons leaves (Leaf segment) []
-segments_of_tree (Node level ts) = flat_map-cons leaves (Node level ts) [] ∙ append_none (leaves (Node level ts))
+segments_of_tree (Node level ts) = flat_map-cons leaves (Node level ts) [] ∙ append-nil (leaves (Node level ts))
 
 -- all of a file, and all of its root
 pub start_both : (file : List ℕ) → length file ≤ MOST_FILE → Rests (segments_of file) (start_of (top_of (store.root_of file)))

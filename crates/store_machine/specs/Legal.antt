@@ -3,6 +3,7 @@ use Rattle.std.specs.Prelude.{◌≡◌, ◌≢◌, ◌⊎◌, ℕ, suc, ◌+◌
 use Rattle.std.specs.FinMap as finite
 use Rattle.std.specs.List.{AllByRecursion}
 use Rattle.sha2.specs.Sha256.{sha256}
+use Rattle.actor_parts.specs.Offers.{IsOffer, sealed_of}
 use Rattle.actor_parts.specs.PinMap.{PinMap, has_pin}
 use Rattle.actor_parts.specs.Segments.{first_unpinned, pin_of}
 use Rattle.container_meta.specs.Segments.{Contents, KindSegment, segment_key}
@@ -30,7 +31,7 @@ use Rattle.store_machine.specs.Done.{Done}
 use Rattle.store_machine.specs.Done as done
 use Rattle.store_machine.specs.Machine.{Collection, Found, Machine, Idle, Writing, Reading, RunState, Running, Stopped, Stepped, keeping, kind_of, one_more, part_in, put_at, stopped}
 use Rattle.store_machine.specs.Needs.{Fits, HasCopy, HasLength, HoldsKey, IsClash, IsLacked}
-use Rattle.store_machine.specs.Offers.{AddsContainers, IsOffer, first_unkept_in, sealed_in, sealed_of, stores_with_some}
+use Rattle.store_machine.specs.Offers.{AddsContainers, AllSegments, first_unkept_in, sealed_in, stores_with_some}
 use Rattle.store_machine.specs.Opening.{Reopens}
 use Rattle.store_machine.specs.Values.{Values}
 
@@ -108,7 +109,7 @@ module _ {V R : Type 0} (v : Values V R) where
 
   -- each segment of these containers fits what was held before any of them was put
   abbrev pub AllFit : List Contents → Machine V R → Type 0
-  AllFit cs m = AllByRecursion (λ c. AllByRecursion (Fits m.store m.forgotten c.kind) c.segments) cs
+  AllFit cs m = AllSegments (Fits m.store m.forgotten) cs
 
   pub record Seals (actor : ℕ) (offered : List Contents) (id count : ℕ) (m n : Machine V R) : Type 0 where
     pub offer : IsOffer offered

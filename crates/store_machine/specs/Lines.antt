@@ -5,7 +5,7 @@ use Rattle.actor_parts.specs.declared.step.Answer.TheVariants as answers
 use Rattle.disk_format.specs.declared.numbers.TheConstants.{MOST_FILE}
 use Rattle.ingest_session.specs.declared.due.Due.{Due}
 use Rattle.ingest_session.specs.declared.due.Due.TheVariants as dues
-use Rattle.ingest_session.specs.Due.{open_of}
+use Rattle.ingest_session.specs.Due.{offered_in}
 use Rattle.ingest_session.specs.declared.queue.TheConstants.{MOST_WAITING}
 use Rattle.ingest_session.specs.DueFor.{IsDueFor}
 use Rattle.ingest_session.specs.History.{History, HasHistory}
@@ -76,7 +76,7 @@ reply_of a (Err refusal) = replies.Refused refusal
 abbrev pub answer_of : Result Done Refusal → Option Answer
 answer_of (Ok done.Held) = Some answers.Held
 answer_of (Ok done.Absent) = Some answers.Absent
-answer_of (Ok (done.Sealed id count)) = Some (answers.Sealed id)
+answer_of (Ok (done.Sealed id count)) = Some (answers.Sealed id count)
 answer_of told = None
 
 -- what it was, where the line was refused
@@ -128,10 +128,10 @@ module _ {V R : Type 0} (v : Values V R) where
 
   -- ---- turns
 
-  -- a step is due of a session: a claim of what it offers, or a seal of the one container that it has filled
+  -- a step is due of a session: a claim of the item whose turn it is, or a seal of the containers that it offers
   abbrev pub Asks : Due → SessionState → Asked V → Type 0
   Asks dues.Claim s (asked.Claim seg) = IsOffered s seg
-  Asks (dues.Seal kind) s (asked.Seal offered) = offered ≡ open_of s kind ∷ []
+  Asks (dues.Seal kind) s (asked.Seal offered) = offered ≡ offered_in s kind
   Asks due s step = ⊥
 
   abbrev pub IsDueStep : Session → Asked V → Type 0

@@ -1,12 +1,12 @@
 -- Containers that an actor offers, to be sealed by one step, and what those that are sealed make of the machine (docs/MODEL.md, 'The
 -- machine').
-use Rattle.std.specs.Prelude.{◌≡◌, ◌⊎◌, ◌≤◌, ◌-◌, ℕ, zero, suc, Bool, true, false, List, [], ◌∷◌, ◌++◌, length, map, min, take, Option, None}
+use Rattle.std.specs.Prelude.{◌≡◌, ◌⊎◌, ℕ, zero, suc, Bool, true, false, List, [], ◌∷◌, ◌++◌, length, map, take, Option, None}
 use Rattle.std.specs.List.{AllByRecursion}
+use Rattle.actor_parts.specs.Offers.{sealed_of}
 use Rattle.actor_parts.specs.PinMap.{PinMap}
-use Rattle.container_meta.specs.declared.kind.Kind.TheVariants.{Leaf}
-use Rattle.container_meta.specs.Segments.{Contents}
+use Rattle.container_meta.specs.declared.kind.Kind.{Kind}
+use Rattle.container_meta.specs.Segments.{Contents, Segment}
 use Rattle.container_meta.specs.Spelling.{HeaderValue, header_of}
-use Rattle.disk_format.specs.declared.numbers.TheConstants.{LAST_ID, RESERVE}
 use Rattle.store_model.specs.Image.{Store}
 use Rattle.store_model.specs.Slots.{first_free, free_slots}
 use Rattle.store_model.specs.Steps.{CanSeal, with_sealed}
@@ -19,26 +19,16 @@ abbrev pub AnyByRecursion : {X : Type 0} → (X → Type 0) → List X → Type 
 AnyByRecursion P [] = ⊥
 AnyByRecursion P (x ∷ xs) = P x ⊎ AnyByRecursion P xs
 
+-- P holds of each segment of each of them
+abbrev pub AllSegments : (Kind → Segment → Type 0) → List Contents → Type 0
+AllSegments P cs = AllByRecursion (λ c. AllByRecursion (P c.kind) c.segments) cs
+
 -- ---- what is offered
-
-abbrev pub most_together : ℕ
-most_together = 16
-
--- one container, or some of data, each with a segment
-pub record IsOffer (offered : List Contents) : Type 0 where
-  pub some : 1 ≤ length offered
-  pub few : length offered ≤ most_together
-  pub leaves : 2 ≤ length offered → AllByRecursion (λ c. c.kind ≡ Leaf) offered
-  pub segments : AllByRecursion (λ c. 1 ≤ length c.segments) offered
 
 -- the key of the first child of their segments that isn't kept
 abbrev pub first_unkept_in : List Contents → PinMap → Option (List ℕ)
 first_unkept_in [] pins = None
 first_unkept_in (c ∷ cs) pins = or_else (first_unkept c.kind c.segments pins) (first_unkept_in cs pins)
-
--- as many of so many are sealed as there are slots beside the reserve, and ids left
-abbrev pub sealed_of : ℕ → (free last : ℕ) → ℕ
-sealed_of offered free last = min offered (min (free - RESERVE) (LAST_ID - last))
 
 -- ---- the slots that they are for, and what a write that failed may have left of them
 

@@ -12,6 +12,7 @@ use Rattle.store_model.specs.Steps.{StoreChange, SealContainer, ChangeName, Flus
 use Rattle.store_machine.specs.Asked.{Asked}
 use Rattle.store_machine.specs.Asked as asked
 use Rattle.store_machine.specs.Needs.{HasLength}
+use Rattle.store_machine.specs.Offers.{AllSegments}
 
 -- Containers are added, each under the next id, with pieces of the file that no container before it holds.
 abbrev pub AddsOnce : List ℕ → List StoreChange → Store → Type 0
@@ -36,8 +37,7 @@ LacksPiece file store = (p : Piece) × (IsPieceOf file p × (newest 0 store.held
 -- what is claimed is a piece of it, and so is each of what is offered
 abbrev pub AsksPieces : List ℕ → Asked (List ℕ) → Type 0
 AsksPieces file (asked.Claim seg) = HasPieceOf file seg
-AsksPieces file (asked.Seal offered) =
-    AllByRecursion (λ c. AllByRecursion (λ s. HasPieceOf file (record { kind = c.kind; segment = s })) c.segments) offered
+AsksPieces file (asked.Seal offered) = AllSegments (λ kind s. HasPieceOf file (record { kind = kind; segment = s })) offered
 AsksPieces file step = ⊥
 
 -- these bytes may come still, after this line: none once the file is to end

@@ -1,15 +1,16 @@
 -- Lists of bytes of which some were written: what of a store is as it was.
-use Rattle.core_machine.proofs.Prelude.{◌≡◌, ◌≢◌, inl, inr, ◌<◌, ◌≤◌, ◌+◌, ◌-◌, ℕ, Bool, List, [], ◌∷◌, length, Option, Some, None, refl, sym, ◌∙◌, subst, arith, lt-ltb, SameOutside, Known, KnownWith, Both, half_cells, slot_at, SLOT_BYTES, SameButSlotOf, SameBefore, Store, Tables, SameButGate}
+use Rattle.core_machine.proofs.Prelude.{◌≡◌, ◌≢◌, inl, inr, ◌<◌, ◌≤◌, ◌+◌, ◌-◌, ℕ, Bool, List, length, Option, Some, None, refl, sym, ◌∙◌, subst, arith, lt-ltb, SameOutside, Known, KnownWith, Both, half_cells, slot_at, SLOT_BYTES, SameButSlotOf, SameBefore, Store, Tables, SameButGate, ◌⊎◌}
 use Rattle.std.proofs.lemmas.Bool.{cases_lt}
 use Rattle.base_model.specs.Bytes.{range}
-use Rattle.container_meta.specs.Segments.{Contents}
+use Rattle.ingest_steps.specs.SealingAll.{SameButSlotsOf}
 use Rattle.disk_format.specs.Layout.{cell_at}
 use Rattle.disk_format.specs.declared.numbers.TheConstants.{CELL_BYTES, FIRST_HALF}
 use Rattle.ingest_steps.specs.Recording.{SameButRecord as SameButRecordOf, SameButRecordBy}
 use Rattle.ingest_steps.proofs.RecordFrames.{record_alone}
+use Rattle.store_core.proofs.FilledSlots.{IsOutOf}
 use Rattle.store_model.specs.Steps.{HasCellsFor}
 use Rattle.store_model.proofs.Journaled.{SameButJournal}
-use Rattle.core_machine.specs.Bytes.{SameBut, SameButSlot, SameButSlots, SameJournal}
+use Rattle.core_machine.specs.Bytes.{SameBut, SameJournal}
 
 pub before_same : (place : ℕ) (bytes : List ℕ) → SameBefore place bytes bytes
 before_same place bytes = record { size = refl; before = λ p n within. refl }
@@ -100,15 +101,23 @@ module _ (slots slot : ℕ) (old new : List ℕ) (same : SameButSlotOf slots slo
     slots_are = λ other below differs. another_slot other below differs;
   }
 
--- one container is for the first
-pub slots_alone : (last : ℕ) (filled : Contents) (old new : List ℕ) → SameButSlot old new → SameButSlots last (filled ∷ []) old new
-slots_alone last filled old new (store, (right, but)) = (
-  store,
-  (
-    right,
-    record { size_is = but.size_is; format = but.format; journal = but.journal; slots_are = λ slot within other. but.slots_are slot within (λ is. other (inl is)) },
-  ),
-)
+-- ---- several slots may be
+
+module _ (slots : ℕ) (taken old new : List ℕ) (same : SameButSlotsOf slots taken old new) where
+  pub but_slots : (Q : ℕ → Type 0) → ((slot : ℕ) → ¬ (Q slot) → IsOutOf taken slot) → SameBut (Unit {0}) (λ half cell. ⊥) Q slots old new
+  but_slots Q others = record {
+    size_is = same.size;
+    format = same.same 0 CELL_BYTES (λ i other here. inl (omega arith), omega arith);
+    journal = λ all. record {
+      head = same.same 0 FIRST_HALF (λ i other here. inl (omega arith), omega arith);
+      cells = λ half cell low less other. same.same (cell_at half cell) CELL_BYTES (λ i slot here. inl (omega (arith, low, less)), omega (arith, low, less));
+    };
+    slots_are = λ slot below none.
+        same.same (slot_at slot) SLOT_BYTES (λ i other here. by_side slot other (others slot none i other here), omega (arith, below));
+  }
+    where
+      by_side : (slot other : ℕ) → slot ≢ other → (slot_at slot + SLOT_BYTES ≤ slot_at other) ⊎ (slot_at other + SLOT_BYTES ≤ slot_at slot)
+      by_side slot other differs = elim (cases_lt slot other) [ inl less ↦ inl (omega (arith, less)) | inr more ↦ inr (omega (arith, more, differs)) ]
 
 -- ---- the bytes of a record may be
 

@@ -1,13 +1,20 @@
 -- What a step leaves of the bytes of a disk that tells its content, where a core is at a store: what was only read, what counts, a slot, a record.
-use Rattle.core_machine.proofs.Prelude.{◌≡◌, inl, inr, ◌<◌, ◌≤◌, ℕ, List, [], ◌∷◌, Some, refl, sym, ◌∙◌, subst, arith, AllByRecursion, KnownWith, Broken, Ending, IsLater, OnlyReads, Both, Change, Kind, Segment, segment_key, slot_at, SameButSlotOf, SameBefore, Files, Stored, Encodes, Store, HasFree, first_free, HasNewest, some_free, IsSettled, IsAt, CoreState, data_level, AllHeld, Holds, SameButRecord, SameButSlot, SameStore}
+use Rattle.core_machine.proofs.Prelude.{◌≡◌, inl, inr, ◌<◌, ◌≤◌, ℕ, List, [], ◌∷◌, Some, refl, sym, ◌∙◌, subst, arith, AllByRecursion, KnownWith, Broken, Ending, IsLater, OnlyReads, Both, Change, Kind, Segment, segment_key, slot_at, SameButSlotOf, SameBefore, Files, Stored, Encodes, Store, HasFree, first_free, HasNewest, some_free, IsSettled, IsAt, CoreState, data_level, AllHeld, Holds, SameButRecord, SameButSlot, SameStore, length, free_slots, suc}
 use Rattle.dd_disk.specs.Ending.{Done, Refused, Unread}
 use Rattle.container_meta.specs.declared.kind.Kind.TheVariants as kinds
 use Rattle.container_meta.specs.Segments.{Contents}
 use Rattle.ingest_steps.specs.Naming.{ChangesJournalAlone}
+use Rattle.ingest_steps.specs.Offering.{in_free}
 use Rattle.ingest_steps.specs.Sealing.{ChangesFirstFree}
+use Rattle.ingest_steps.specs.SealingAll.{ChangesSlotsAlone, SameButSlotsOf, slots_of}
+use Rattle.store_model.specs.Together.{Placed}
+use Rattle.store_core.proofs.FilledSlots.{IsOutOf}
+use Rattle.store_machine.specs.Offers.{AnyByRecursion, placed}
+use Rattle.core_machine.specs.Bytes.{SameButSlots}
 use Rattle.store_model.specs.Collisions.{Stands}
 use Rattle.store_state.specs.Settled as settled
-use Rattle.core_machine.proofs.Bytes.{both_known, but_none, but_record, but_slot, known_weaker}
+use Rattle.core_machine.proofs.Bytes.{both_known, but_none, but_record, but_slot, but_slots, known_weaker}
+use Rattle.core_machine.proofs.PlacedSame.{out_of_placed, placed_same}
 
 -- ---- segments that a store holds
 
@@ -98,6 +105,25 @@ module _ (S : List ℕ → Type 0) (store : Store) (stored : Stored) (old new : 
               right_here,
               but_slot store.slots (first_free store.held) image now
                   (subst (λ (n : ℕ). SameButSlotOf n (first_free store.held) image now) at.represents.slots_are same) within,
+            ),
+          ),
+        )
+
+    -- nothing is another but the closed slots for these containers
+    pub slots_told : (last : ℕ) (cs : List Contents) → length cs ≤ free_slots store.held
+        → ChangesSlotsAlone old.tables.slots (slots_of (in_free (suc last) cs store)) old.disk new.disk → Told (SameButSlots last cs image)
+    slots_told last cs room frame =
+        let (now, told, same) = (frame.settled calm image here).0 in (
+          now,
+          told,
+          (
+            store,
+            (
+              right_here,
+              but_slots store.slots (slots_of (in_free (suc last) cs store)) image now
+                  (subst (λ (n : ℕ). SameButSlotsOf n (slots_of (in_free (suc last) cs store)) image now) at.represents.slots_are same)
+                  (λ slot. AnyByRecursion (λ p. slot ≡ p.slot) (placed last cs store))
+                  (λ slot none. subst (λ (ps : List Placed). IsOutOf (slots_of ps) slot) (placed_same last cs store room) (out_of_placed (placed last cs store) slot none)),
             ),
           ),
         )

@@ -1,6 +1,6 @@
 -- What each step of a core that stands for files leaves of the bytes of its disk, as the machine of files has it.
 use Rattle.std.specs.Prelude.{IfErr}
-use Rattle.core_machine.proofs.Prelude.{◌≡◌, inl, ℕ, List, [], ◌∷◌, Option, Some, None, Result, Ok, Err, refl, sym, ◌∙◌, ap, subst, AllByRecursion, KnownWith, ending_of, OnlyReads, Change, Root, Gone, Put, Answer, IsStep, StepValue, pin_of, HasNewest, KindSegment, segment_at, segment_key, Refusal, ByteSet, IsIn, Store, with_sealed, blames, IsSettled, Represents, Tables, PlaceMap, GcEffect, GcRow, IsNotMade, TouchesBy, ClaimRow, CommitRow, DeleteRow, Effect, NamesOne, Rests, Row, SealRow, SealsOne, Steps, StopsAfter, next_id, FileEvent, IsAt, IsGivenRight, IsNoGcStep, IsHarmless, MayClash, CoreState, running_step, never_damaged, FileMachine, Answers, ByState, LegalBy, RunState, Stopped, RootMachine, of_files, AllHeld, BytesOf, ChangesBytes, Holds, SameButRecord, SameStore, stored_in, answered_by, asked_as, NamesGc, NamesStep}
+use Rattle.core_machine.proofs.Prelude.{◌≡◌, ℕ, List, [], ◌∷◌, Option, Some, None, Result, Ok, Err, refl, sym, ◌∙◌, ap, subst, AllByRecursion, KnownWith, ending_of, OnlyReads, Change, Root, Gone, Put, Answer, IsStep, StepValue, pin_of, HasNewest, KindSegment, segment_at, segment_key, Refusal, ByteSet, IsIn, Store, blames, IsSettled, Represents, Tables, PlaceMap, GcEffect, GcRow, IsNotMade, TouchesBy, ClaimRow, CommitRow, DeleteRow, Effect, NamesOne, Rests, Row, SealRow, SealsSome, Steps, StopsAfter, next_id, FileEvent, IsAt, IsGivenRight, IsNoGcStep, IsHarmless, MayClash, CoreState, running_step, never_damaged, FileMachine, Answers, ByState, LegalBy, RunState, Stopped, RootMachine, of_files, AllHeld, BytesOf, ChangesBytes, Holds, SameButRecord, SameStore, stored_in, answered_by, asked_as, NamesGc, NamesStep, length, arith, Kind, Segment}
 use Rattle.std.proofs.lemmas.List.{append-nil}
 use Rattle.dd_disk.specs.Ending.{Done}
 use Rattle.actor_parts.specs.declared.step.Answer.TheVariants as answers
@@ -10,20 +10,31 @@ use Rattle.gc_steps.specs.declared.collection.Collection.{Collection}
 use Rattle.refusals.specs.declared.refusal.Refusal.TheVariants as refusals
 use Rattle.store_core.specs.Keeping.{IsHeldIn, kept_by}
 use Rattle.store_core.proofs.GcSteps.{end_reads}
-use Rattle.store_core.proofs.KeepingFiles.{may_seal_all}
+use Rattle.store_core.proofs.Damage.{got_taken, twin_is_tree}
+use Rattle.core_machine.proofs.PlacedSame.{any_got}
+use Rattle.store_core.proofs.KeepingFiles.{may_offer, may_seal_each}
+use Rattle.store_core.proofs.ManySealed.{all_free}
+use Rattle.gc_sweep.proofs.KeyLists.{each_so}
 use Rattle.store_core.proofs.KeepingSegments.{keeps_segments}
 use Rattle.store_machine.specs.Asked as asked
-use Rattle.ingest_steps.specs.Sealing as sealing
+use Rattle.std.proofs.lemmas.List.{length-take}
+use Rattle.std.specs.Prelude.{take}
+use Rattle.actor_parts.specs.Offers.{sealed_of}
+use Rattle.store_model.specs.Slots.{free_slots}
+use Rattle.store_model.specs.Together.{Placed, with_all}
+use Rattle.ingest_steps.specs.Offering.{in_free, offer_in}
+use Rattle.ingest_steps.specs.SealingAll.{ChangesSlotsAlone, slots_of}
+use Rattle.store_core.specs.Core.{AreSealed}
 use Rattle.store_machine.specs.Offers.{AnyByRecursion, sealed_in}
 use Rattle.core_machine.specs.Bytes.{OneClashes, SameButSlots}
 use Rattle.core_machine.specs.Files.{file_step}
-use Rattle.core_machine.proofs.Bytes.{known_of, known_weaker, slots_alone}
-use Rattle.core_machine.proofs.BytesAt.{IsRest, all_held, reads_told, record_told, rest_told, right_here, slot_told, stands_here, store_told}
+use Rattle.core_machine.proofs.Bytes.{known_of, known_weaker}
+use Rattle.core_machine.proofs.BytesAt.{IsRest, all_held, reads_told, record_told, rest_told, right_here, slots_told, stands_here, store_told}
 use Rattle.core_machine.proofs.BytesSwept.{broke, refused, swept}
 use Rattle.core_machine.proofs.FileBroken.{stores_are}
 use Rattle.core_machine.proofs.FileIngests.{clashes_with, segment_there}
 use Rattle.core_machine.proofs.FileSteps.{StepsTo}
-use Rattle.core_machine.proofs.Sealed.{sealed_alone}
+use Rattle.core_machine.proofs.Sealed.{sealed_taken}
 use Rattle.core_machine.proofs.FileSwept.{makes_so}
 
 module _ {C : Type 0} {state : C → CoreState} {among : ByteSet} {f : FileEvent} {old new : C} {m n : FileMachine} {r t : RootMachine}
@@ -94,48 +105,83 @@ module _ {C : Type 0} {state : C → CoreState} {among : ByteSet} {f : FileEvent
 
   -- ---- seals
 
-  seal_rests : (filled : Contents) (refusal : Refusal) → IsRest (ending_of (blames refusal)) → SealsOne filled (Err refusal) c d → KnownWith d.disk.content (SameStore image)
-  seal_rests filled refusal rests effect =
+  seal_rests : (offered : List Contents) (refusal : Refusal) → IsRest (ending_of (blames refusal)) → SealsSome offered (Err refusal) c d
+      → KnownWith d.disk.content (SameStore image)
+  seal_rests offered refusal rests effect =
       store_told S m.store (stored_in m.now) c d at (rest_told S m.store (stored_in m.now) c d at (ending_of (blames refusal)) rests effect.disk.left)
 
-  sealed_held : (filled : Contents) (id : ℕ) → SealsOne filled (Ok (answers.Sealed id)) c d → IsStep (steps.Seal filled)
-      → IsGivenRight S (steps.Seal filled) (Ok (answers.Sealed id)) f.bytes c → (now : List ℕ) → d.disk.content ≡ Some now → AllHeld now filled
-  sealed_held filled id effect right given now told =
-      let may = may_seal_all S filled.kind filled.segments right.1 given in
+  -- those that are sealed, by the tables and by the machine
+  abbrev room : List Contents → ℕ
+  room offered = sealed_of (length offered) (free_slots m.store.held) c.tables.held.last_id
+
+  last_here : m.last_id ≡ c.tables.held.last_id
+  last_here = sym to.steps.forgets.last_id ∙ to.steps.machine.last_id
+
+  room_is : (offered : List Contents) → take (room offered) offered ≡ sealed_in offered m
+  room_is offered = ap (λ (last : ℕ). take (sealed_of (length offered) (free_slots m.store.held) last) offered) (sym last_here)
+
+  seal_slots : (offered : List Contents) (answer : Result Answer Refusal) → SealsSome offered answer c d
+      → KnownWith d.disk.content (SameButSlots m.last_id (take (room offered) offered) image)
+  seal_slots offered answer effect =
+      slots_told S m.store (stored_in m.now) c d at calm m.last_id (take (room offered) offered) (omega (arith, length-take (room offered) offered))
+      (subst (λ (id : ℕ). ChangesSlotsAlone c.tables.slots (slots_of (in_free id (take (room offered) offered) m.store)) c.disk d.disk) (omega (arith, last_here))
+      (effect.moves.frame.store_has m.store at.represents at.valid (at.invariant image here).has_free))
+
+  sealed_held : (offered : List Contents) (id count : ℕ) → AreSealed offered id count f.event.actor c d → SealsSome offered (Ok (answers.Sealed id count)) c d
+      → IsStep (steps.Seal offered) → IsGivenRight S (steps.Seal offered) (Ok (answers.Sealed id count)) f.bytes c → (now : List ℕ) → d.disk.content ≡ Some now
+      → AllByRecursion (AllHeld now) (take count offered)
+  sealed_held offered id count row effect right given now told =
+      let free = (at.invariant image here).has_free in
+      let ps : List Placed = offer_in c.tables offered m.store in
+      let may = may_offer S c.tables offered m.store (may_seal_each S offered right.1 given) in
       let moved = effect.moves.moves among m.store m.now.names at.index at.index_known at.represents (at.invariant image here).files_are_indexed to.steps.apart may at.stands in
       let stands = stands_here S m.store (stored_in m.now) c d at in
       let holds = effect.moves.holds among m.store m.now.names at.index image now at.index_known at.represents here told stands to.steps.apart may in
-      all_held S (with_sealed (next_id c) filled.kind filled.segments m.store) m.now.names now (moved.arrives.each now (d.disk.as_read now told)).1 filled holds.1
+      let P : Kind → List Segment → Type 0 = λ kind segments. AllByRecursion (λ x. HasNewest (with_all ps m.store).held (segment_key kind x) x.level x.bytes now) segments in
+      let offer_is : ps ≡ in_free (next_id c) (take count offered) m.store = ap (λ (n : ℕ). in_free (next_id c) (take n offered) m.store)
+      (sym ((row.room c.disk.size c.known).store_has m.store at.represents at.valid free)) in
+      each_so (λ x. P x.kind x.segments) (AllHeld now) (take count offered)
+      (λ x has. all_held S (with_all ps m.store) m.now.names now (moved.arrives.each now (d.disk.as_read now told)) x has)
+      (all_free P (next_id c) (take count offered) m.store _ (effect.made.can.store_has m.store at.represents at.valid free)
+      (subst (AllByRecursion (λ (p : Placed). P p.kind p.segments)) offer_is holds.1))
 
-  alone : (filled : Contents) → ((slot : ℕ) × sealing.HasSlot c.tables slot) → sealed_in (filled ∷ []) m ≡ filled ∷ []
-  alone filled has = sealed_alone m r c to.steps.forgets to.steps.machine filled has
-
-  seal_bytes : (filled : Contents) (answer : Result Answer Refusal) → SealRow filled f.event.actor answer c d → SealsOne filled answer c d → IsStep (steps.Seal filled)
-      → IsGivenRight S (steps.Seal filled) answer f.bytes c → IfErr answer (λ refusal. IsHarmless (MayClash (steps.Seal filled)) refusal) → Told (steps.Seal filled) answer
-  seal_bytes filled (Ok (answers.Sealed id)) row effect right given harmless =
-      let (now, told, same) = slot_told S m.store (stored_in m.now) c d at calm effect.moves.frame in
-      (now, told, (slots_alone m.last_id filled image now same, (sealed_held filled id effect right given now told, tt)))
-  seal_bytes filled (Ok answer) row effect right given harmless = absurd row
-  seal_bytes filled (Err (refusals.Clash key at_byte)) row effect right given harmless =
-      let first = row.0.2 in
-      let clash : OneClashes filled image key at_byte = (
-        first.number,
+  seal_bytes : (offered : List Contents) (answer : Result Answer Refusal) → SealRow offered f.event.actor answer c d → SealsSome offered answer c d → IsStep (steps.Seal offered)
+      → IsGivenRight S (steps.Seal offered) answer f.bytes c → IfErr answer (λ refusal. IsHarmless (MayClash (steps.Seal offered)) refusal) → Told (steps.Seal offered) answer
+  seal_bytes offered (Ok (answers.Sealed id count)) row effect right given harmless =
+      let (now, told, same) = seal_slots offered (Ok (answers.Sealed id count)) effect in
+      let many : room offered ≡ count = sym ((row.room c.disk.size c.known).store_has m.store at.represents at.valid (at.invariant image here).has_free) in
+      (now, told, (subst (λ (n : ℕ). SameButSlots m.last_id (take n offered) image now) many same, sealed_held offered id count row effect right given now told))
+  seal_bytes offered (Ok answer) row effect right given harmless = absurd row
+  seal_bytes offered (Err (refusals.Clash key at_byte)) row effect right given harmless =
+      let slots : List ℕ = row.0.1.0 in
+      let first = row.0.1.2 in
+      let here_in = got_taken (length slots) offered first.number first.contents first.contents_are in
+      let clash : OneClashes first.contents image key at_byte = (
+        first.unlike.number,
         (
-          segment_at filled.segments first.number,
+          segment_at first.contents.segments first.unlike.number,
           (
-            segment_there filled.segments first.number first.within,
-            clashes_with S m.store (stored_in m.now) c d at image here filled.kind (segment_at filled.segments first.number) harmless.is_twin.0 key at_byte first.unlike,
+            segment_there first.contents.segments first.unlike.number first.unlike.within,
+            clashes_with S m.store (stored_in m.now) c d at image here first.contents.kind (segment_at first.contents.segments first.unlike.number)
+                (twin_is_tree offered right.0 harmless first.number first.contents here_in) key at_byte first.unlike.unlike,
           ),
         ),
       ) in
-      let (now, told, same) = seal_rests filled (refusals.Clash key at_byte) tt effect in
-      (now, told, (same, subst (AnyByRecursion (λ one. OneClashes one image key at_byte)) (sym (alone filled row.0.1)) (inl clash)))
-  seal_bytes filled (Err refusals.DiskWrite) row effect right given harmless =
-      let (now, told, same) = slot_told S m.store (stored_in m.now) c d at calm effect.moves.frame in
-      (now, told, subst (λ (cs : List Contents). SameButSlots m.last_id cs image now) (sym (alone filled row.0.1)) (slots_alone m.last_id filled image now same))
-  seal_bytes filled (Err (refusals.Stopped count)) row effect right given harmless = absurd row.0.2.unlike.refused.2
-  seal_bytes filled (Err refusals.DiskRead) row effect right given harmless = seal_rests filled refusals.DiskRead tt effect
-  seal_bytes filled (Err refusal) row effect right given harmless = seal_rests filled refusal tt effect
+      let (now, told, same) = seal_rests offered (refusals.Clash key at_byte) tt effect in (
+        now,
+        told,
+        (
+          same,
+          subst (AnyByRecursion (λ one. OneClashes one image key at_byte)) (sym (sealed_taken m r c to.steps.forgets to.steps.machine offered slots row.0.1.1))
+              (any_got (λ one. OneClashes one image key at_byte) (take (length slots) offered) first.number first.contents first.contents_are clash),
+        ),
+      )
+  seal_bytes offered (Err refusals.DiskWrite) row effect right given harmless =
+      known_weaker d.disk.content (SameButSlots m.last_id (take (room offered) offered) image) (SameButSlots m.last_id (sealed_in offered m) image)
+      (λ now same. subst (λ (cs : List Contents). SameButSlots m.last_id cs image now) (room_is offered) same) (seal_slots offered (Err refusals.DiskWrite) effect)
+  seal_bytes offered (Err (refusals.Stopped count)) row effect right given harmless = absurd row.0.1.2.unlike.unlike.refused.2
+  seal_bytes offered (Err refusals.DiskRead) row effect right given harmless = seal_rests offered refusals.DiskRead tt effect
+  seal_bytes offered (Err refusal) row effect right given harmless = seal_rests offered refusal tt effect
 
   -- ---- names
 
@@ -192,7 +238,7 @@ module _ {C : Type 0} {state : C → CoreState} {among : ByteSet} {f : FileEvent
       → Effect step answer c d → StopsAfter step answer c.acknowledged d.stop → Kept step answer → IfErr answer (λ refusal. IsHarmless (MayClash step) refusal)
       → NamesStep step answer c d r t → LegalBy of_files (asked_as (λ root. f.bytes) step) f.event.actor (answered_by answer f.event.buf) m n → Told step answer
   bytes_by (steps.Claim seg) answer right given row effect stops keeps harmless named legal = claim_bytes seg answer row effect stops keeps harmless
-  bytes_by (steps.Seal filled) answer right given row effect stops keeps harmless named legal = seal_bytes filled answer row effect right given harmless
+  bytes_by (steps.Seal offered) answer right given row effect stops keeps harmless named legal = seal_bytes offered answer row effect right given harmless
   bytes_by (steps.Commit name root) answer right given row effect stops keeps harmless named legal = commit_bytes name root answer row effect
   bytes_by (steps.Delete name) answer right given row effect stops keeps harmless named legal = delete_bytes name answer row effect
   bytes_by steps.GcStep answer right given row effect stops keeps harmless named legal =
@@ -211,6 +257,6 @@ module _ {C : Type 0} {state : C → CoreState} {among : ByteSet} {f : FileEvent
 -- what it answers is said of no byte
 pub stopped_bytes : (m n : FileMachine) (content bytes : List ℕ) (count : ℕ) (step : StepValue)
     → BytesOf (asked_as (λ root. bytes) step) (Err (refusals.Stopped count)) m n content content
-stopped_bytes m n content bytes count (steps.Seal filled) = refl
+stopped_bytes m n content bytes count (steps.Seal offered) = refl
 stopped_bytes m n content bytes count steps.GcStep = refl
 stopped_bytes m n content bytes count step = refl

@@ -1,5 +1,5 @@
 -- A step that stopped a core at the files of a machine: its disk stands for the files of the machine that is stopped then.
-use Rattle.core_machine.proofs.Prelude.{◌≡◌, ◌⊎◌, inl, inr, ◌+◌, ◌≤◌, ℕ, suc, Bool, true, false, List, [], ◌∷◌, Option, Some, None, Result, Err, refl, sym, ◌∙◌, ap, subst, arith, Broken, IsLater, OnlyReads, PlaceMap, Change, Root, Gone, Put, Answer, StepValue, IsStep, Mark, Filter, Select, IsSafeAt, Touches, phase_at, HoldsAt, HasStage, IsUnderWay, Next, Flush, Release, End, HoldsSweep, slot_in_turn, IsSweeping, Refusal, ByteSet, HasNoCollisions, IsIn, Files, with_freed, Store, last_sequence, with_change, with_sealed, CoreInvariant, Stop, TouchesBy, Effect, NamesOne, SealsOne, Steps, StopsAfter, next_id, FileEvent, IsGivenRight, IsSafeIn, IsHarmless, MayClash, CoreState, IsUnderWayIn, running_step, last_at, opens_at, never_damaged, step_later, FileMachine, SameState, ByState, LegalBy, Refuses, broken_by, with_name, without_name, Found, RunState, Running, Stopped, stopped, RootMachine, StaysAt, of_files, IsAtFiles, MayStand, StandsFor, stored_in, answered_by, asked_as, NamesStep, changes_of}
+use Rattle.core_machine.proofs.Prelude.{◌≡◌, ◌⊎◌, inl, inr, ◌+◌, ◌≤◌, ℕ, suc, Bool, true, false, List, [], ◌∷◌, Option, Some, None, Result, Err, refl, sym, ◌∙◌, ap, subst, arith, Broken, IsLater, OnlyReads, PlaceMap, Change, Root, Gone, Put, Answer, StepValue, IsStep, Mark, Filter, Select, IsSafeAt, Touches, phase_at, HoldsAt, HasStage, IsUnderWay, Next, Flush, Release, End, HoldsSweep, slot_in_turn, IsSweeping, Refusal, ByteSet, HasNoCollisions, IsIn, Files, with_freed, Store, last_sequence, with_change, with_sealed, CoreInvariant, Stop, TouchesBy, Effect, NamesOne, SealsSome, Steps, StopsAfter, FileEvent, IsGivenRight, IsSafeIn, IsHarmless, MayClash, CoreState, IsUnderWayIn, running_step, last_at, opens_at, never_damaged, step_later, FileMachine, SameState, ByState, LegalBy, Refuses, broken_by, with_name, without_name, Found, RunState, Running, Stopped, stopped, RootMachine, StaysAt, of_files, IsAtFiles, MayStand, StandsFor, stored_in, answered_by, asked_as, NamesStep, changes_of}
 use Rattle.std.proofs.Common.{if◌then◌else◌, map, Contains}
 use Rattle.std.specs.Prelude.{IfErr}
 use Rattle.container_meta.specs.Segments.{Contents}
@@ -19,17 +19,24 @@ use Rattle.store_model.specs.Steps.{changed, has_cell, with_cell, with_checkpoin
 use Rattle.store_model.specs.Trees.{root_of}
 use Rattle.store_model.proofs.Cells.{last_with_cell}
 use Rattle.store_core.specs.Runs.{IsRootOf}
-use Rattle.store_core.proofs.Crashes.{change_leaves, delete_leaves, flush_leaves, last_more, less_indexed, none_in_turn, opens_by, opens_copied, opens_freed, opens_sealed, put_indexed, put_leaves, release_leaves, seal_leaves}
+use Rattle.store_core.proofs.Crashes.{change_leaves, delete_leaves, flush_leaves, last_more, less_indexed, none_in_turn, opens_by, opens_copied, opens_freed, opens_some, put_indexed, put_leaves, release_leaves, seal_leaves}
 use Rattle.store_machine.specs.Forgetting.{Forgets}
-use Rattle.store_machine.specs.Offers.{stores_with_some}
-use Rattle.store_machine.proofs.Added.{alone_sealed}
+use Rattle.std.specs.Prelude.{length, take}
+use Rattle.std.proofs.lemmas.List.{length-take}
+use Rattle.actor_parts.specs.Offers.{sealed_of}
+use Rattle.store_model.specs.Slots.{free_slots}
+use Rattle.store_model.specs.Together.{Placed, with_some}
+use Rattle.ingest_steps.specs.Offering.{in_free, offer_in}
+use Rattle.store_core.proofs.ManySealed.{last_some}
+use Rattle.store_machine.specs.Offers.{sealed_in, stores_with_some}
+use Rattle.core_machine.proofs.PlacedSame.{some_stands}
 use Rattle.core_machine.proofs.FileSteps.{StepsAt, StepsTo}
 
 -- what stops a core that finds no damage
 why_stopped : (step : StepValue) (answer : Result Answer Refusal) (count : ℕ) (stopped : Option Stop) (stop : Stop) → stopped ≡ Some stop → StopsAfter step answer count stopped
     → IfErr answer (λ refusal. IsHarmless (MayClash step) refusal) → answer ≡ Err refusals.DiskWrite
 why_stopped step (Err refusals.DiskWrite) count stopped stop is stops harmless = refl
-why_stopped (steps.Seal filled) (Err (refusals.Damaged at why)) count stopped stop is stops harmless = absurd harmless
+why_stopped (steps.Seal offered) (Err (refusals.Damaged at why)) count stopped stop is stops harmless = absurd harmless
 why_stopped step answer count stopped stop is stops harmless = absurd (let both = sym is ∙ stops in cc)
 
 -- ---- which stores may stand
@@ -123,16 +130,21 @@ module _ (among : ByteSet) (m : FileMachine) (old new : CoreState) (at : IsAtFil
     abbrev index : PlaceMap
     index = at.is_at.index
 
-    seal_stands : (filled : Contents) (id : ℕ) → id ≡ next_id old → SealsOne filled (Err refusals.DiskWrite) old new → IsStep (steps.Seal filled)
-        → IsGivenRight S (steps.Seal filled) (Err refusals.DiskWrite) bytes old → (image : List ℕ) → new.disk.images image
-        → MayStand S (stopped None (with_sealed id filled.kind filled.segments m.store ∷ []) m) image
-    seal_stands filled id id_is effect right is_given image left =
-        subst (λ (k : ℕ). MayStand S (stopped None (with_sealed k filled.kind filled.segments m.store ∷ []) m) image) (sym id_is)
-        (elim ((seal_leaves among m.store (stored_in m.now) old new bytes apart at.is_at filled (Err refusals.DiskWrite) effect right is_given).now image left) [
-          | inl is ↦ may_still None (with_sealed (next_id old) filled.kind filled.segments m.store ∷ []) image is
-          | inr is ↦ may_one (with_sealed (next_id old) filled.kind filled.segments m.store) image
-              (opens_sealed among m.store (stored_in m.now) old new bytes apart at.is_at filled is.0) refl is.1
-        ])
+    seal_stands : (offered : List Contents) → m.last_id ≡ old.tables.held.last_id → SealsSome offered (Err refusals.DiskWrite) old new → IsStep (steps.Seal offered)
+        → IsGivenRight S (steps.Seal offered) (Err refusals.DiskWrite) bytes old → (image : List ℕ) → new.disk.images image
+        → MayStand S (stopped None (stores_with_some m.last_id (sealed_in offered m) m.store) m) image
+    seal_stands offered last_is effect right is_given image left =
+        let cs : List Contents = sealed_in offered m in
+        let n : ℕ = sealed_of (length offered) (free_slots m.store.held) m.last_id in
+        let ps : List Placed = offer_in old.tables offered m.store in
+        let offer_is : in_free (suc m.last_id) cs m.store ≡ ps =
+        (let next : suc m.last_id ≡ m.last_id + 1 = omega arith in ap (λ (k : ℕ). in_free k cs m.store) next)
+        ∙ ap (λ (last : ℕ). in_free (last + 1) (take (sealed_of (length offered) (free_slots m.store.held) last) offered) m.store) last_is in
+        let stands = (seal_leaves among m.store (stored_in m.now) old new bytes apart at.is_at offered (Err refusals.DiskWrite) effect right is_given).now image left in
+        may_be None (stores_with_some m.last_id cs m.store) (with_some stands.0 ps m.store) image
+        (subst (λ (qs : List Placed). Contains (m.store ∷ stores_with_some m.last_id cs m.store) (with_some stands.0 qs m.store)) offer_is
+        (some_stands m.last_id cs m.store stands.0 (omega (arith, length-take n offered))))
+        (opens_some among m.store (stored_in m.now) old new bytes apart at.is_at offered stands.0) (last_some stands.0 ps m.store ∙ last_here) stands.1
 
     put_stands : (name : List ℕ) (root : Root) → NamesOne name (Put root) (Err refusals.DiskWrite) old new → IsRootOf root bytes old → (image : List ℕ) → new.disk.images image
         → MayStand S (stopped (Some (with_name of_files name bytes m.now)) (broken_by of_files name (Put (root_of bytes)) m.store) m) image
@@ -213,7 +225,7 @@ module _ (among : ByteSet) (m : FileMachine) (old new : CoreState) (at : IsAtFil
 
 -- a step that writes
 abbrev Writes : StepValue → Type 0
-Writes (steps.Seal filled) = Unit {0}
+Writes (steps.Seal offered) = Unit {0}
 Writes (steps.Commit name root) = Unit {0}
 Writes (steps.Delete name) = Unit {0}
 Writes steps.GcStep = Unit {0}
@@ -233,7 +245,7 @@ module _ (bytes : List ℕ) (m n : FileMachine) (runs : m.state ≡ Running) (ac
           → ByState of_files m.state actor (asked_as (λ root. bytes) step) (Err refusals.DiskWrite) m n
       by_state steps.Begin legal = legal
       by_state (steps.Claim seg) legal = legal
-      by_state (steps.Seal filled) legal = legal
+      by_state (steps.Seal offered) legal = legal
       by_state (steps.Commit name root) legal = legal
       by_state steps.Abort legal = legal
       by_state (steps.OpenRead name) legal = legal
@@ -247,7 +259,7 @@ module _ (bytes : List ℕ) (m n : FileMachine) (runs : m.state ≡ Running) (ac
 
   -- none but those that write are
   it_writes : (step : StepValue) → Refuses of_files actor (asked_as (λ root. bytes) step) refusals.DiskWrite m n → Writes step
-  it_writes (steps.Seal filled) refuses = tt
+  it_writes (steps.Seal offered) refuses = tt
   it_writes (steps.Commit name root) refuses = tt
   it_writes (steps.Delete name) refuses = tt
   it_writes steps.GcStep refuses = tt
@@ -292,12 +304,9 @@ module _ {C : Type 0} {state : C → CoreState} {among : ByteSet} {f : FileEvent
   by_step : (step : StepValue) → Writes step → Effect step (Err refusals.DiskWrite) (state old) (state new) → IsStep step
       → IsGivenRight (IsIn among) step (Err refusals.DiskWrite) f.bytes (state old) → Refuses of_files f.event.actor (asked_as (λ root. f.bytes) step) refusals.DiskWrite m n
       → NamesStep step (Err refusals.DiskWrite) (state old) (state new) r t → StandsFor (IsIn among) n (state new).disk
-  by_step (steps.Seal filled) writes effect right given (may, (slot, fits, is)) named =
-      let next : suc m.last_id ≡ next_id (state old) = omega (arith, before.forgets.last_id, before.machine.last_id) in
-      let alone = alone_sealed filled m slot.0.1 slot.1 in
-      stands_as None (with_sealed (suc m.last_id) filled.kind filled.segments m.store ∷ [])
-      (is ∙ ap (λ (cs : List Contents). stopped None (stores_with_some m.last_id cs m.store) m) alone)
-      (seal_stands among m (state old) (state new) here f.bytes before.apart filled (suc m.last_id) next effect right given)
+  by_step (steps.Seal offered) writes effect right given (may, (slot, fits, is)) named =
+      stands_as None (stores_with_some m.last_id (sealed_in offered m) m.store) is
+      (seal_stands among m (state old) (state new) here f.bytes before.apart offered (sym before.forgets.last_id ∙ before.machine.last_id) effect right given)
   by_step (steps.Commit name root) writes effect right given (may, (can, numbers, value, whole, is)) named =
       stands_as (Some (with_name of_files name f.bytes m.now)) (broken_by of_files name (Put (root_of f.bytes)) m.store) is
       (put_stands among m (state old) (state new) here f.bytes before.apart name root effect given)

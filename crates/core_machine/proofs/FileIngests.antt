@@ -1,5 +1,5 @@
 -- What the content of a disk adds to claims, seals and commits, so that they are steps of the machine of files.
-use Rattle.core_machine.proofs.Prelude.{◌≡◌, inl, inr, ◌<◌, ◌≤◌, ℕ, zero, suc, List, [], ◌∷◌, length, take, Option, Some, None, Result, Ok, Err, refl, sym, ◌∙◌, ap, subst, arith, slice_get, AllByRecursion, Shows, shown_content, Root, MOST_FILE, Kind, Place, kind_byte, KindSegment, Segment, segment_at, segment_key, Answer, Refusal, Stored, Store, HasKey, IsPartialIndexOf, newest, bytes_at, store_once, length_of_copy, ClaimRow, CommitRow, SealRow, IsAt, IsHarmless, CoreState, data_level, FileMachine, IsLacked, HasCopy, AddsToAnswer, RootMachine, of_files, stored_in, TellsForgotten, answered_by}
+use Rattle.core_machine.proofs.Prelude.{◌≡◌, inl, inr, ◌<◌, ◌≤◌, ℕ, zero, suc, List, [], ◌∷◌, length, take, Option, Some, None, Result, Ok, Err, refl, sym, ◌∙◌, ap, subst, arith, slice_get, AllByRecursion, Shows, shown_content, Root, MOST_FILE, Kind, Place, kind_byte, KindSegment, Segment, segment_at, segment_key, Answer, Refusal, Stored, Store, HasKey, IsPartialIndexOf, newest, bytes_at, store_once, length_of_copy, ClaimRow, CommitRow, SealRow, IsAt, IsHarmless, CoreState, data_level, FileMachine, IsLacked, HasCopy, AddsToAnswer, RootMachine, of_files, stored_in, TellsForgotten, answered_by, some_same}
 use Rattle.std.proofs.Common.{IfErr}
 use Rattle.std.specs.FinMap as finite
 use Rattle.std.specs.List.{Contains}
@@ -17,14 +17,16 @@ use Rattle.store_model.specs.Slots.{Copy}
 use Rattle.store_model.specs.Steps.{FitsCopy, FitsHeld}
 use Rattle.store_model.proofs.Copies.{copy_digest}
 use Rattle.store_model.proofs.Lookups.{finds}
-use Rattle.store_state.specs.Comparing.{FirstDifference, FitSoFar, FitsBytes, IsUnlike}
+use Rattle.store_state.specs.Comparing.{FirstDifference, FitSoFar, FitsBytes, IsUnlike, IsFirstUnlike}
 use Rattle.store_state.proofs.Compared.{held_all}
 use Rattle.store_core.specs.Runs.{IsRightCommit, IsRootOf}
-use Rattle.store_core.proofs.Damage.{HoldsTwin, IsTwin}
+use Rattle.actor_parts.specs.Offers.{IsOffer}
+use Rattle.ingest_steps.specs.Offering.{HasSlots, WereCompared}
+use Rattle.store_core.proofs.Damage.{IsTwin, OneHoldsTwin, got_taken, twin_is_tree}
+use Rattle.store_core.proofs.ManySealed.{all_taken}
 use Rattle.store_core.proofs.KeepingSegments.{node_level}
 use Rattle.store_machine.specs.Asked as asked
-use Rattle.ingest_steps.specs.Sealing as sealing
-use Rattle.store_machine.specs.Legal.{AllFit, IsFirstClash}
+use Rattle.store_machine.specs.Legal.{AllFit, IsFirstClash, IsClashIn}
 use Rattle.store_machine.specs.Needs.{Fits}
 use Rattle.store_machine.specs.Offers.{sealed_in}
 use Rattle.store_machine.specs.Needs.{DifferBy, IsClash}
@@ -206,32 +208,63 @@ module _ (S : List ℕ → Type 0) (m : FileMachine) (t : RootMachine) (old new 
   claim_adds seg (Err (refusals.Corrupt slot offset count want got)) right row harmless = harmless
   claim_adds seg (Err refusal) right row harmless = tt
 
-  pub seal_adds : (filled : Contents) → (((slot : ℕ) × sealing.HasSlot old.tables slot) → sealed_in (filled ∷ []) m ≡ filled ∷ []) → (answer : Result Answer Refusal)
-      → AllByRecursion (IsOfKind filled.kind) filled.segments → SealRow filled a answer old new → IfErr answer (λ refusal. IsHarmless (HoldsTwin filled) refusal)
-      → AddsToAnswer a (asked.Seal (filled ∷ [])) (answered_by answer buf) m t
-  seal_adds filled alone (Ok (answers.Sealed id)) right row harmless = (
-    compared_fit S m.store (stored_in m.now) old new at image content_is m.forgotten tells filled.kind filled.segments row.compared.hads right row.compared.fit,
-    tt,
+  -- containers that were compared with what is held fit it
+  all_compared : (cs : List Contents) → AllByRecursion (λ c. AllByRecursion (IsOfKind c.kind) c.segments) cs
+      → WereCompared old.disk.size old.known (Shows old.disk new.disk) cs → AllFit of_files cs m
+  all_compared [] right compared = tt
+  all_compared (c ∷ cs) right compared = (
+    compared_fit S m.store (stored_in m.now) old new at image content_is m.forgotten tells c.kind c.segments compared.0.hads right.0 compared.0.fit,
+    all_compared cs right.1 compared.1,
   )
-  seal_adds filled alone (Ok answer) right row harmless = absurd row
-  seal_adds filled alone (Err (refusals.Clash key difference)) right row harmless =
-      let first = row.0.2 in
-      let x : Segment = segment_at filled.segments first.number in
-      subst (λ (cs : List Contents). IsFirstClash of_files cs key difference m) (sym (alone row.0.1)) (inl (
+
+  -- the first of their segments that is another copy's clashes
+  clash_in : (c : Contents) → c.kind ≡ kinds.Tree → AllByRecursion (IsOfKind c.kind) c.segments → (key : List ℕ) (difference : Difference)
+      → IsFirstUnlike old.disk.size old.known (Shows old.disk new.disk) c.kind c.segments (refusals.Clash key difference) → IsClashIn of_files c key difference m
+  clash_in c tree right key difference first =
+      let x : Segment = segment_at c.segments first.number in (
         first.number,
         x,
-        segment_there filled.segments first.number first.within,
-        compared_fit S m.store (stored_in m.now) old new at image content_is m.forgotten tells filled.kind (take first.number filled.segments) first.hads
-            (all_first (IsOfKind filled.kind) first.number filled.segments right) first.before,
-        clashes S m.store (stored_in m.now) old new at image content_is m.forgotten tells filled.kind x harmless.is_twin.0 key difference first.unlike,
-      ))
-  seal_adds filled alone (Err (refusals.Corrupt slot offset count want got)) right row harmless = harmless
-  seal_adds filled alone (Err refusals.DiskWrite) right row harmless =
-      subst (λ (cs : List Contents). AllFit of_files cs m) (sym (alone row.0.1)) (
-        compared_fit S m.store (stored_in m.now) old new at image content_is m.forgotten tells filled.kind filled.segments row.0.2.hads right row.0.2.fit,
-        tt,
+        segment_there c.segments first.number first.within,
+        compared_fit S m.store (stored_in m.now) old new at image content_is m.forgotten tells c.kind (take first.number c.segments) first.hads
+            (all_first (IsOfKind c.kind) first.number c.segments right) first.before,
+        clashes S m.store (stored_in m.now) old new at image content_is m.forgotten tells c.kind x tree key difference first.unlike,
       )
-  seal_adds filled alone (Err refusal) right row harmless = tt
+
+  first_clash : (cs : List Contents) → AllByRecursion (λ c. AllByRecursion (IsOfKind c.kind) c.segments) cs → (number : ℕ) (c : Contents) → slice_get cs number ≡ Some c
+      → c.kind ≡ kinds.Tree → WereCompared old.disk.size old.known (Shows old.disk new.disk) (take number cs) → (key : List ℕ) (difference : Difference)
+      → IsFirstUnlike old.disk.size old.known (Shows old.disk new.disk) c.kind c.segments (refusals.Clash key difference) → IsFirstClash of_files cs key difference m
+  first_clash [] right number c here tree before key difference first = absurd cc
+  first_clash (x ∷ xs) right zero c here tree before key difference first =
+      let same : c ≡ x = sym (some_same x c here) in
+      inl (subst (λ (y : Contents). IsClashIn of_files y key difference m) same
+      (clash_in c tree (subst (λ (y : Contents). AllByRecursion (IsOfKind y.kind) y.segments) (sym same) right.0) key difference first))
+  first_clash (x ∷ xs) right (suc number) c here tree before key difference first = inr (
+    compared_fit S m.store (stored_in m.now) old new at image content_is m.forgotten tells x.kind x.segments before.0.hads right.0 before.0.fit,
+    first_clash xs right.1 number c here tree before.1 key difference first,
+  )
+
+  pub seal_adds : (offered : List Contents) → IsOffer offered
+      → ((slots : List ℕ) → HasSlots old.tables (length offered) slots → sealed_in offered m ≡ take (length slots) offered) → (answer : Result Answer Refusal)
+      → AllByRecursion (λ c. AllByRecursion (IsOfKind c.kind) c.segments) offered → SealRow offered a answer old new
+      → IfErr answer (λ refusal. IsHarmless (OneHoldsTwin offered) refusal)
+      → AddsToAnswer a (asked.Seal offered) (answered_by answer buf) m t
+  seal_adds offered offer taken (Ok (answers.Sealed id count)) right row harmless =
+      all_compared (take count offered) (all_taken (λ c. AllByRecursion (IsOfKind c.kind) c.segments) count offered right) row.compared
+  seal_adds offered offer taken (Ok answer) right row harmless = absurd row
+  seal_adds offered offer taken (Err (refusals.Clash key difference)) right row harmless =
+      let slots : List ℕ = row.0.1.0 in
+      let first = row.0.1.2 in
+      subst (λ (cs : List Contents). IsFirstClash of_files cs key difference m) (sym (taken slots row.0.1.1))
+      (first_clash (take (length slots) offered) (all_taken (λ c. AllByRecursion (IsOfKind c.kind) c.segments) (length slots) offered right) first.number first.contents
+      first.contents_are
+      (twin_is_tree offered offer harmless first.number first.contents (got_taken (length slots) offered first.number first.contents first.contents_are))
+      first.before key difference first.unlike)
+  seal_adds offered offer taken (Err (refusals.Corrupt slot offset count want got)) right row harmless = harmless
+  seal_adds offered offer taken (Err refusals.DiskWrite) right row harmless =
+      let slots : List ℕ = row.0.1.0 in
+      subst (λ (cs : List Contents). AllFit of_files cs m) (sym (taken slots row.0.1.1))
+      (all_compared (take (length slots) offered) (all_taken (λ c. AllByRecursion (IsOfKind c.kind) c.segments) (length slots) offered right) row.0.1.2)
+  seal_adds offered offer taken (Err refusal) right row harmless = tt
 
   -- a file whose tree the index has may be put under a name
   whole : (root : Root) (file : List ℕ) → length file ≤ MOST_FILE → IsRootOf root file old → IsWhole file m

@@ -1,5 +1,5 @@
 -- A core that was at the files of a machine is at those of the machine that a step made of it, where the step is none of a collection.
-use Rattle.core_machine.proofs.Prelude.{◌≡◌, ℕ, List, [], ◌∷◌, with_sealed, None, Some, Result, Ok, Err, refl, sym, ◌∙◌, ap, subst, Root, Answer, StepValue, Refusal, ByteSet, IsIn, Stored, Store, ChangesTo, FileEvent, IsAt, IsNoGcStep, changes_by, stored_by, stored_with, CoreState, NextOn, Asked, FileMachine, Answers, ByState, LegalBy, Refuses, RefusesClaim, RefusesCommit, RefusesDelete, RefusesOn, RefusesSeal, RunState, Running, keeping, RootMachine, of_files, IsOfFile, stored_in, answered_by, asked_as, segment_key}
+use Rattle.core_machine.proofs.Prelude.{◌≡◌, ℕ, suc, ◌+◌, ◌-◌, arith, List, [], ◌∷◌, take, None, Some, Result, Ok, Err, refl, sym, ◌∙◌, ap, subst, Root, Answer, StepValue, Refusal, ByteSet, IsIn, Stored, Store, ChangesTo, FileEvent, IsAt, IsNoGcStep, changes_by, stored_by, stored_with, CoreState, NextOn, Asked, FileMachine, Answers, ByState, LegalBy, Refuses, RefusesClaim, RefusesCommit, RefusesDelete, RefusesOn, RefusesSeal, RunState, Running, keeping, RootMachine, of_files, IsOfFile, stored_in, answered_by, asked_as, segment_key}
 use Rattle.actor_parts.specs.declared.step.Answer.TheVariants as answers
 use Rattle.actor_parts.specs.StepValue as steps
 use Rattle.refusals.specs.declared.refusal.Refusal.TheVariants as refusals
@@ -8,8 +8,11 @@ use Rattle.store_machine.specs.Done.{Done}
 use Rattle.store_machine.specs.Machine.{Collection}
 use Rattle.core_machine.proofs.FileSteps.{StepsAt, StepsTo}
 use Rattle.core_machine.proofs.FileWritten.{KeepsWritten, keeping_written, none_written, same_written}
-use Rattle.store_machine.specs.Needs.{keys_of}
-use Rattle.store_machine.proofs.Added.{seals_alone}
+use Rattle.store_core.specs.Collecting.{keys_in}
+use Rattle.store_core.specs.Core.{seals_from}
+use Rattle.store_core.proofs.ManySealed.{leads_once}
+use Rattle.store_machine.proofs.Added.{each_added}
+use Rattle.core_machine.proofs.AddedAll.{added_chain, added_keys}
 
 -- ---- names and store are as they were
 
@@ -77,7 +80,7 @@ ask bytes step = asked_as (λ root. bytes) step
 
 on_stays : (m n : FileMachine) (a : ℕ) (bytes : List ℕ) (step : StepValue) (refusal : Refusal) → IsNoGcStep step → RefusesOn of_files a (ask bytes step) refusal m n → Stays m n
 on_stays m n a bytes (steps.Claim seg) refusal other is = claim_stays m n a seg refusal is
-on_stays m n a bytes (steps.Seal filled) refusal other is = seal_stays m n a (filled ∷ []) refusal is
+on_stays m n a bytes (steps.Seal offered) refusal other is = seal_stays m n a offered refusal is
 on_stays m n a bytes (steps.Commit name root) refusal other is = commit_stays m n a name bytes refusal is
 on_stays m n a bytes (steps.Delete name) refusal other is = delete_stays m n name refusal is
 on_stays m n a bytes (steps.OpenRead name) refusals.Memory other is = same m n is
@@ -133,14 +136,16 @@ module _ (m n : FileMachine) (a : ℕ) (bytes buf : List ℕ) (t : Store) where
       stayed (steps.Claim seg) (Ok answers.Held) refl refl (stays_keeping m n _ (segment_key seg.kind seg.segment ∷ []) is.others refl refl refl) chain
   does (steps.Claim seg) answers.Absent other of is chain = stayed (steps.Claim seg) (Ok answers.Absent) refl refl (same m n is.2) chain
   does (steps.Claim seg) answer other of is chain = absurd is
-  does (steps.Seal filled) (answers.Sealed id) other of is chain =
-      let (one, id_is) = seals_alone of_files a filled id 1 m n is in
+  does (steps.Seal offered) (answers.Sealed id count) other of is chain =
+      let first : id + 1 - count ≡ suc m.last_id = omega (arith, is.id_is) in
       record {
-        store = chain.1 ∙ ap (λ (k : ℕ). with_sealed k filled.kind filled.segments m.store) id_is ∙ sym (ap (λ (x : FileMachine). x.store) one.others);
-        now = sym (ap (λ (x : FileMachine). stored_in x.now) one.others);
-        written = keeping_written (keys_of filled.kind filled.segments) m n (ap (λ (x : FileMachine). x.collection) one.others);
+        store = leads_once (seals_from (suc m.last_id) (take count offered)) m.store t n.store
+            (subst (λ (k : ℕ). ChangesTo (seals_from k (take count offered)) m.store t) first chain) (added_chain a (take count offered) m n is.adds);
+        now = sym (each_added a (λ (k : FileMachine). stored_in k.now ≡ stored_in m.now)
+            (λ c k l one has. ap (λ (x : FileMachine). stored_in x.now) one.others ∙ has) (take count offered) m n is.adds refl);
+        written = keeping_written (keys_in (take count offered)) m n (added_keys a (take count offered) m n is.adds);
       }
-  does (steps.Seal filled) answer other of is chain = absurd is
+  does (steps.Seal offered) answer other of is chain = absurd is
   does (steps.Commit name root) (answers.Committed sequence) other of is chain = record {
     store = (subst (λ (r : Root). ChangesTo (changes_by (steps.Commit name r) (Ok (answers.Committed sequence))) m.store t) of.0 chain).1
         ∙ sym (ap (λ (x : FileMachine). x.store) is.others);
@@ -178,7 +183,7 @@ module _ (m n : FileMachine) (a : ℕ) (bytes buf : List ℕ) (t : Store) where
   does steps.Stat answer other of is chain = absurd is
 
   none_by : (step : StepValue) (refusal : Refusal) → changes_by step (Err refusal) ≡ []
-  none_by (steps.Seal filled) refusal = refl
+  none_by (steps.Seal offered) refusal = refl
   none_by (steps.Commit name root) refusal = refl
   none_by (steps.Delete name) refusal = refl
   none_by step refusal = refl
@@ -203,7 +208,7 @@ module _ (m n : FileMachine) (a : ℕ) (bytes buf : List ℕ) (t : Store) where
   pub by_step : (step : StepValue) (told : Result Done Refusal) → LegalBy of_files (ask bytes step) a told m n → ByState of_files m.state a (ask bytes step) told m n
   by_step steps.Begin told by = by
   by_step (steps.Claim seg) told by = by
-  by_step (steps.Seal filled) told by = by
+  by_step (steps.Seal offered) told by = by
   by_step (steps.Commit name root) told by = by
   by_step steps.Abort told by = by
   by_step (steps.OpenRead name) told by = by

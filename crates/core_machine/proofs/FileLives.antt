@@ -14,9 +14,10 @@ use Rattle.store_core.specs.Collecting.{Begins as CoreBegins}
 use Rattle.store_core.proofs.AtStore.{leaves, refused_known}
 use Rattle.store_core.proofs.Frames.{at_on, written_stays}
 use Rattle.store_machine.specs.Collecting.{Begins, GoesOn}
-use Rattle.store_machine.specs.Needs.{keys_of}
+use Rattle.std.specs.Prelude.{take}
+use Rattle.store_core.specs.Collecting.{keys_in}
 use Rattle.store_machine.proofs.Beside.{refused_keeps}
-use Rattle.store_machine.proofs.Added.{seals_alone}
+use Rattle.core_machine.proofs.AddedAll.{added_keys}
 use Rattle.core_machine.specs.Files.{LivesByNeed}
 use Rattle.core_machine.proofs.FileKept.{answers_by, comes, next}
 use Rattle.core_machine.proofs.FileNeeds.{all_fit}
@@ -45,7 +46,7 @@ record Went (step : StepValue) (answer : Result Answer Refusal) (m : FileMachine
 -- a step that was refused keeps none
 none_kept : (step : StepValue) (refusal : Refusal) (key : List ℕ) → IsKeptKey step (Err refusal) key → ⊥
 none_kept (steps.Claim seg) refusal key is = is
-none_kept (steps.Seal filled) refusal key is = is
+none_kept (steps.Seal offered) refusal key is = is
 none_kept step refusal key is = is
 
 module _ (m n : FileMachine) (a : ℕ) (bytes buf : List ℕ) (ran : MachineCollection (List ℕ)) (runs : n.collection ≡ Some ran) where
@@ -69,9 +70,9 @@ module _ (m n : FileMachine) (a : ℕ) (bytes buf : List ℕ) (ran : MachineColl
   went : (step : StepValue) (answer : Result Answer Refusal) → IsPlainStep step → Answers of_files a (ask bytes step) (answered_by answer buf) m n → Went step answer m ran
   went (steps.Claim seg) (Ok answers.Held) plain is =
       more_went (steps.Claim seg) (Ok answers.Held) (segment_key seg.kind seg.segment ∷ []) (contains_one (segment_key seg.kind seg.segment)) (runs_as is.others)
-  went (steps.Seal filled) (Ok (answers.Sealed id)) plain is =
-      more_went (steps.Seal filled) (Ok (answers.Sealed id)) (keys_of filled.kind filled.segments) (λ key. (λ there. there, λ there. there))
-      (runs_as (seals_alone of_files a filled id 1 m n is).0.others)
+  went (steps.Seal offered) (Ok (answers.Sealed id count)) plain is =
+      more_went (steps.Seal offered) (Ok (answers.Sealed id count)) (keys_in (take count offered)) (λ key. (λ there. there, λ there. there))
+      (added_keys a (take count offered) m n is.adds)
   went steps.Begin (Ok answers.Begun) plain is = same_went steps.Begin (Ok answers.Begun) (λ key none. none) (runs_as is.1)
   went (steps.Claim seg) (Ok answers.Absent) plain is = same_went (steps.Claim seg) (Ok answers.Absent) (λ key none. none) (runs_as is.2)
   went (steps.Commit name root) (Ok (answers.Committed sequence)) plain is =

@@ -1,5 +1,5 @@
 -- After a step of a collection that did not stop it a core is at the files of its machine, in the machine's store, on a settled disk.
-use Rattle.core_machine.proofs.Prelude.{slice_get, ◌≡◌, inl, inr, ℕ, suc, ◌≤◌, List, [], ◌∷◌, ◌++◌, Option, Some, None, option_map, Result, Ok, Err, refl, sym, ◌∙◌, ap, subst, arith, Answer, StepValue, PlaceMap, HeaderValue, header_of, Next, id_at, CoreCollection, CoreStage, CoreStepsTo, moment, phase_at, KeepsMarks, DiskView, HoldsAt, GoesWell, held_at, IsStoreAfter, Phase, Refusal, ByteSet, IsIn, Store, first_free, free_slots, ids_of, StoreChange, with_sealed, GcEffect, GcRow, CoreGoesOn, IsNotMade, at_moment, Effect, Row, Steps, ChangesTo, FileEvent, IsAt, IsSafeIn, stored_by, CoreState, IsUnderWayIn, AtStore, running_step, first_with, phase_of, Leads, led_to, same_some, FileMachine, Makes, keys_written, written_more, forget_collection, Answers, ByState, LegalBy, Refuses, Found, RunState, RootMachine, of_files, Root, stored_in, answered_by, asked_as, MovesAs, NamesGc, NamesStep, changes_of, SameRun, IsWritten, WroteOnce}
+use Rattle.core_machine.proofs.Prelude.{slice_get, ◌≡◌, inl, inr, ℕ, suc, ◌≤◌, List, [], ◌∷◌, ◌++◌, Option, Some, None, option_map, Result, Ok, Err, refl, sym, ◌∙◌, ap, subst, arith, Answer, StepValue, PlaceMap, HeaderValue, header_of, Next, id_at, CoreCollection, CoreStage, CoreStepsTo, moment, phase_at, KeepsMarks, DiskView, HoldsAt, GoesWell, held_at, IsStoreAfter, Phase, Refusal, ByteSet, IsIn, Store, first_free, free_slots, ids_of, StoreChange, with_sealed, GcEffect, GcRow, CoreGoesOn, IsNotMade, at_moment, Effect, Row, Steps, ChangesTo, FileEvent, IsAt, IsSafeIn, stored_by, CoreState, IsUnderWayIn, AtStore, running_step, there_now, phase_of, Leads, led_to, same_some, FileMachine, Makes, keys_written, written_more, forget_collection, Answers, ByState, LegalBy, Refuses, Found, RunState, RootMachine, of_files, Root, stored_in, answered_by, asked_as, MovesAs, NamesGc, NamesStep, changes_of, SameRun, IsWritten, WroteOnce}
 use Rattle.std.proofs.Common.{Contains, get_or}
 use Rattle.actor_parts.specs.declared.step.Answer.TheVariants as answers
 use Rattle.actor_parts.specs.StepValue as steps
@@ -137,10 +137,10 @@ module _ (C : Type 0) (state : C → CoreState) (among : ByteSet) (f : FileEvent
         let slot = first_free m.store.held in
         let h : HeaderValue = header_of i k.sweep.buffer.kind k.sweep.buffer.segments in
         let g : HeaderValue = header_of j k.sweep.buffer.kind k.sweep.buffer.segments in
-        sym (id_at (with_sealed i k.sweep.buffer.kind k.sweep.buffer.segments m.store).held slot h (first_with h m.store.held free))
+        sym (id_at (with_sealed i k.sweep.buffer.kind k.sweep.buffer.segments m.store).held slot h (there_now h m.store.held free))
         ∙ ap (λ (s : Store). get_or (ids_of s.held) slot 0) (sym mine)
         ∙ ap (λ (ids : List ℕ). get_or ids slot 0) same_ids ∙ ap (λ (s : Store). get_or (ids_of s.held) slot 0) theirs
-        ∙ id_at (with_sealed j k.sweep.buffer.kind k.sweep.buffer.segments m.store).held slot g (first_with g m.store.held free)
+        ∙ id_at (with_sealed j k.sweep.buffer.kind k.sweep.buffer.segments m.store).held slot g (there_now g m.store.held free)
 
     by_stage : (stage : CoreStage) (next : Next) → IsStoreAfter stage next k.snapshot k.sweep is_at.index m.store store_then is_at.stands.known.0
         → Makes (changes_of (phase_at stage next) m.last_id k.sweep) m.store n.store → n.store ≡ store_then

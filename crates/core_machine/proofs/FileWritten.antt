@@ -1,5 +1,5 @@
 -- What a collection wrote it does not write again: a container of an id from its snapshot on has each of these keys, and it fills none of them once more.
-use Rattle.core_machine.proofs.Prelude.{◌≡◌, inl, inr, ℕ, ◌≤◌, true, List, [], ◌++◌, Option, Some, None, refl, sym, ◌∙◌, ap, subst, arith, Contains-append_cases, Contains-get_or, PlaceMap, has_key, HeaderValue, header_of, Mark, Filter, Select, Moment, phase_at, HoldsAt, GoesWell, IsStoreAfter, Next, Flush, Release, End, slot_in_turn, Store, IsPartialIndexOf, first_free, StoreChange, listed_of, first_with, keys_written, changes_of, MachineCollection, keeping, none_in, IsWritten, WroteOnce, CoreState, FileMachine}
+use Rattle.core_machine.proofs.Prelude.{◌≡◌, inl, inr, ℕ, ◌≤◌, true, List, [], ◌++◌, Option, Some, None, refl, sym, ◌∙◌, ap, subst, arith, Contains-append_cases, Contains-get_or, PlaceMap, has_key, HeaderValue, header_of, Mark, Filter, Select, Moment, phase_at, HoldsAt, GoesWell, IsStoreAfter, Next, Flush, Release, End, slot_in_turn, Store, IsPartialIndexOf, first_free, StoreChange, listed_of, there_now, keys_written, changes_of, MachineCollection, keeping, none_in, IsWritten, WroteOnce, CoreState, FileMachine}
 use Rattle.std.proofs.Common.{append-nil}
 use Rattle.std.specs.Prelude.{Contains, get_or, slice_get}
 use Rattle.std.proofs.lemmas.Grind.{get_or_default_zero}
@@ -11,7 +11,7 @@ use Rattle.gc_steps.specs.Stepping.{StepsTo}
 use Rattle.gc_sweep.specs.declared.sweep.Next.TheVariants.{Copy}
 use Rattle.gc_sweep.proofs.Holds.{no_key}
 use Rattle.store_core.proofs.CopiesOnce.{HoldsNewer, listed_found, not_old}
-use Rattle.store_core.proofs.Frames.{still_there}
+use Rattle.gc_steps.proofs.SealedPins.{stays_there}
 use Rattle.store_model.proofs.Copies.{some_same}
 use Rattle.store_model.proofs.Freed.{other_there}
 use Rattle.core_machine.proofs.LivesOn.{StandOn}
@@ -101,7 +101,7 @@ module _ (index : PlaceMap) (store store_now : Store) (image : List ℕ) (partia
       → b.snapshot ≤ h.id → Stands store slot h → Stands store_now slot h
   stands_after SweepStage (Flush source entry) is flushes slot h new there =
       subst (λ (s : Store). Stands s slot h) (sym flushes.now_is)
-      (still_there store.held (header_of flushes.id b.sweep.buffer.kind b.sweep.buffer.segments) (omega (arith, flushes.can.slot)) slot h there)
+      (stays_there (header_of flushes.id b.sweep.buffer.kind b.sweep.buffer.segments) store.held slot h there)
   stands_after SweepStage (Release source entry) is frees slot h new there =
       let source = subst (Contains b.sweep.sources.items) (sym frees.id_is) (Contains-get_or b.sweep.sources.items frees.number 0 frees.within) in
       let one : slot_in_turn b.sweep ≡ slot → frees.header ≡ h =
@@ -159,7 +159,7 @@ module _ (index : PlaceMap) (store store_now : Store) (image : List ℕ) (partia
           then_as key (subst (λ (s : Store). HoldsNewer s.held b.snapshot key) (sym flushes.now_is) (record {
             slot = first_free store.held;
             header = h;
-            there = first_with h store.held (omega (arith, flushes.can.slot));
+            there = there_now h store.held (omega (arith, flushes.can.slot));
             new = flushes.new;
             entry = entry.0;
             found = entry.1;

@@ -29,14 +29,14 @@ use Rattle.core_machine.proofs.FileSteps.{StepsAt, StepsTo}
 use Rattle.core_machine.proofs.FileSwept.{swept_at}
 use Rattle.core_machine.proofs.FileWrote.{wrote_on}
 use Rattle.core_machine.proofs.Refined.{core_refines}
-use Rattle.core_machine.proofs.Sealed.{sealed_alone}
+use Rattle.core_machine.proofs.Sealed.{sealed_taken}
 
 -- ---- one step is asked of both machines
 
 same_asked : (step : StepValue) (bytes : List ℕ) → IsOfFile step bytes → asked_by step ≡ asked_of (asked_as (λ root. bytes) step)
 same_asked steps.Begin bytes of = refl
 same_asked (steps.Claim seg) bytes of = refl
-same_asked (steps.Seal filled) bytes of = refl
+same_asked (steps.Seal offered) bytes of = refl
 same_asked (steps.Commit name root) bytes of = ap (λ (r : Root). let x : Asked Root = asked_by (steps.Commit name r) in x) of.0
 same_asked steps.Abort bytes of = refl
 same_asked (steps.OpenRead name) bytes of = refl
@@ -91,7 +91,7 @@ none_added step bytes a told m r t none = absurd none
 stopped_added : (step : StepValue) (bytes : List ℕ) (a at : ℕ) (m : FileMachine) (r t : RootMachine) → AddsBy (asked_as (λ root. bytes) step) a (Err (refusals.Stopped at)) m r t
 stopped_added steps.Begin bytes a at m r t = tt
 stopped_added (steps.Claim seg) bytes a at m r t = tt
-stopped_added (steps.Seal filled) bytes a at m r t = tt
+stopped_added (steps.Seal offered) bytes a at m r t = tt
 stopped_added (steps.Commit name root) bytes a at m r t = tt
 stopped_added steps.Abort bytes a at m r t = tt
 stopped_added (steps.OpenRead name) bytes a at m r t = tt
@@ -138,9 +138,9 @@ module _ {C : Type 0} {state : C → CoreState} {among : ByteSet} {f : FileEvent
       → Row step f.event.actor f.event.answer f.event.buf (state old) (state new) → IfErr f.event.answer (λ refusal. IsHarmless (MayClash step) refusal) → AddsAs step
   adds_by (steps.Claim seg) is asked given of row harmless =
       claim_adds (IsIn among) m t (state old) (state new) s.at.is_at tells f.event.actor f.event.buf seg f.event.answer asked row harmless
-  adds_by (steps.Seal filled) is asked given of row harmless =
-      seal_adds (IsIn among) m t (state old) (state new) s.at.is_at tells f.event.actor f.event.buf filled (sealed_alone m r (state old) s.forgets s.machine filled)
-      f.event.answer asked.1 row harmless
+  adds_by (steps.Seal offered) is asked given of row harmless =
+      seal_adds (IsIn among) m t (state old) (state new) s.at.is_at tells f.event.actor f.event.buf offered asked.0
+      (sealed_taken m r (state old) s.forgets s.machine offered) f.event.answer asked.1 row harmless
   adds_by (steps.Commit name root) is asked given of row harmless =
       commit_adds (IsIn among) m t (state old) (state new) s.at.is_at tells f.event.actor f.event.buf name f.bytes root f.event.answer of.1 given row
   adds_by steps.ReadNext is asked given of row harmless = subst AddsAs is (reads_add s is)

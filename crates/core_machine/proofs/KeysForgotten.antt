@@ -1,5 +1,5 @@
 -- Which keys are forgotten, by the map of the index: what that is after each step that moves the one or the other.
-use Rattle.core_machine.proofs.Prelude.{◌≡◌, ◌≢◌, ℕ, zero, suc, ◌+◌, ◌<◌, Bool, true, false, cond, not, ◌||◌, List, [], ◌∷◌, ◌++◌, length, Option, Some, None, option_map, refl, sym, ◌∙◌, ap, subst, arith, AllByRecursion, bytes_eq, Contains-append_cases, Contains-append_left, Contains-append_right, bytes_eq-Decides, key_of, Kind, Place, kind_byte, PlaceMap, Segment, entries_from, segment_key, HeaderValue, without_keys, Store, HasFree, HasKey, IsIndexOf, newest, without_slot, with_sealed, forgotten_beside, TellsForgotten}
+use Rattle.core_machine.proofs.Prelude.{◌≡◌, ◌≢◌, ℕ, zero, suc, ◌+◌, ◌<◌, Bool, true, false, cond, not, ◌||◌, List, [], ◌∷◌, ◌++◌, length, Option, Some, None, option_map, refl, sym, ◌∙◌, ap, subst, arith, AllByRecursion, bytes_eq, Contains-append_cases, Contains-append_left, Contains-append_right, bytes_eq-Decides, Kind, Place, PlaceMap, Segment, entries_from, segment_key, HeaderValue, without_keys, Store, HasFree, HasKey, IsIndexOf, newest, without_slot, with_sealed, forgotten_beside, TellsForgotten, ◌↔◌}
 use Rattle.std.proofs.Common.{Contains, filter, get_or, nat_lt, ⊎_elim}
 use Rattle.std.specs.FinMap as finite
 use Rattle.std.specs.List.{list_any}
@@ -9,10 +9,9 @@ use Rattle.std.proofs.lemmas.Map.Views.{Contains-from_any}
 use Rattle.gc_sweep.proofs.KeyLists.{gone, had_before, place_stays}
 use Rattle.store_model.specs.Indexing.{with_entries}
 use Rattle.store_model.specs.Slots.{Copy, copy_in, newer}
-use Rattle.store_model.proofs.Indexing.{has_segments, put_none}
-use Rattle.store_model.proofs.NewestSealed.{none_found}
+use Rattle.store_model.proofs.Indexing.{has_segments}
 use Rattle.store_model.proofs.SealedTrees.{newest_beside}
-use Rattle.store_core.proofs.Sealing.{to_entries}
+use Rattle.store_core.proofs.ManySealed.{none_of}
 use Rattle.store_machine.specs.Needs.{keys_of}
 
 -- ---- keys in a list
@@ -163,9 +162,34 @@ pub put_told : (forgotten : List (List ℕ)) (id slot : ℕ) (kind : Kind) (segm
     → TellsForgotten (forgotten_beside (keys_of kind segments) forgotten) (with_sealed id kind segments store).held (with_entries kind slot (entries_from 0 segments) places)
 put_told forgotten id slot kind segments store places free told =
     written_told forgotten id kind segments store places (with_entries kind slot (entries_from 0 segments) places) free (has_segments kind slot 0 segments places)
-    (λ key none. put_none kind slot (entries_from 0 segments) places key
-    (none_found kind key (entries_from 0 segments) (to_entries (λ digest. key_of (kind_byte kind) digest ≢ key) 0 segments none)))
-    told
+    (λ key none. none_of kind slot segments places key none) told
+
+-- where the same keys have no place
+pub told_as : (forgotten : List (List ℕ)) (held : List (Option HeaderValue)) (places after : PlaceMap)
+    → ((key : List ℕ) → (finite.get after key ≡ None) ↔ (finite.get places key ≡ None)) → TellsForgotten forgotten held places → TellsForgotten forgotten held after
+told_as forgotten held places after same told = record {
+  lacked = λ key copy is none. told.lacked key copy is ((same key).0 none);
+  gone = λ key there. (same key).1 (told.gone key there);
+}
+
+-- a map that has the keys of a container, and lacks just what another one lacks beside them, lacks just what that lacks once they are put
+pub put_or_not : (kind : Kind) (segments : List Segment) (key : List ℕ) (places after : PlaceMap) → AllByRecursion (λ s. HasKey after (segment_key kind s)) segments
+    → (AllByRecursion (λ s. segment_key kind s ≢ key) segments → (finite.get after key ≡ None) ↔ (finite.get places key ≡ None))
+    → (finite.get after key ≡ None) ↔ (finite.get (with_entries kind 0 (entries_from 0 segments) places) key ≡ None)
+put_or_not kind segments key places after has same = by (list_any (bytes_eq key) (keys_of kind segments)) refl
+  where
+    put : PlaceMap
+    put = with_entries kind 0 (entries_from 0 segments) places
+
+    by : (b : Bool) → list_any (bytes_eq key) (keys_of kind segments) ≡ b → (finite.get after key ≡ None) ↔ (finite.get put key ≡ None)
+    by true some = (
+      λ none. absurd (no_place after key none (has_one (HasKey after) kind segments key has some)),
+      λ none. absurd (no_place put key none (has_one (HasKey put) kind segments key (has_segments kind 0 0 segments places) some)),
+    )
+    by false others =
+        let apart = other_segments kind segments key (all_others (keys_of kind segments) key others) in
+        let is = none_of kind 0 segments places key apart in
+        (λ none. is ∙ (same apart).0 none, λ none. (same apart).1 (sym is ∙ none))
 
 -- a container was given back, and the index is the same
 pub freed_told : (forgotten : List (List ℕ)) (slot : ℕ) (held : List (Option HeaderValue)) (places : PlaceMap) → TellsForgotten forgotten held places

@@ -1,7 +1,7 @@
 -- Just the keys of which a predicate holds are live, also after a step that is none of the collection, of which another holds then: of what the
 -- step keeps too. That is pinned, as are the children of a node that it keeps, so that all these are live; and what was live and held whole
 -- stays so.
-use Rattle.core_machine.proofs.Prelude.{◌≡◌, ◌⊎◌, ◌↔◌, inl, inr, ℕ, zero, suc, ◌+◌, ◌-◌, ◌<◌, Bool, true, false, List, [], ◌∷◌, ◌++◌, length, Option, Some, None, Result, Ok, refl, sym, ◌∙◌, ap, subst, arith, slice_get, AllByRecursion, Contains-append_cases, Contains-append_left, Contains-append_right, SLOT_BYTES, slot_at, Entry, Kind, Place, PlaceMap, Segment, entries_from, segment_key, HeaderValue, header_of, contents_in, Answer, PinMap, children_by, pin_by, pin_of, StepValue, apart, Refusal, LiveKeys, IsLiveAt, child_keys, Stored, Store, names_of, key_set, AreHeaders, HasKey, newest, bytes_at, node_key, some_same, contained, in_set, HoldsPart, Mark, Filter, Select, HoldsNode, IsPartKey, IsRoot, IsSafeAt, IsWithin, SweepIsSafe, contains_first, contains_none, IsLive, Collects, IsKeptKey, MarksIn, Row, Steps, ChangesTo, IsAt, IsSafeIn, changes_by, CoreState, Event, NextOn, contains_one, all_part, IsClosedAt, IsLiveAtStage, LivesJust}
+use Rattle.core_machine.proofs.Prelude.{◌≡◌, ◌⊎◌, ◌↔◌, inl, inr, ℕ, zero, suc, ◌+◌, ◌-◌, ◌<◌, Bool, true, false, List, [], ◌∷◌, ◌++◌, length, Option, Some, None, Result, Ok, refl, sym, ◌∙◌, ap, subst, arith, slice_get, AllByRecursion, Contains-append_cases, Contains-append_left, Contains-append_right, SLOT_BYTES, slot_at, Kind, Place, PlaceMap, Segment, segment_key, HeaderValue, contents_in, Answer, PinMap, children_by, pin_of, StepValue, apart, Refusal, LiveKeys, IsLiveAt, child_keys, Stored, Store, names_of, key_set, AreHeaders, HasKey, newest, bytes_at, node_key, some_same, contained, in_set, HoldsPart, Mark, Filter, Select, HoldsNode, IsPartKey, IsRoot, IsSafeAt, IsWithin, SweepIsSafe, contains_first, contains_none, IsLive, Collects, IsKeptKey, MarksIn, Row, Steps, ChangesTo, IsAt, IsSafeIn, changes_by, CoreState, Event, NextOn, contains_one, all_part, IsClosedAt, IsLiveAtStage, LivesJust}
 use Rattle.std.proofs.Common.{map}
 use Rattle.std.specs.Prelude.{Contains}
 use Rattle.std.specs.FinMap as finite
@@ -22,12 +22,9 @@ use Rattle.gc_enumerate.specs.Scanning.{child_key}
 use Rattle.store_model.specs.Slots.{Copy}
 use Rattle.store_model.proofs.Copies.{lies}
 use Rattle.store_model.proofs.Frames.{SameSlot, copy_kept}
-use Rattle.store_model.proofs.Indexing.{entry_of}
-use Rattle.store_model.proofs.NewestSealed.{newest_without}
 use Rattle.store_model.proofs.OneNode.{one_spelling}
 use Rattle.store_state.specs.Invariant.{ArePinsOf}
 use Rattle.ingest_steps.specs.Claiming.{key_of_seg}
-use Rattle.ingest_steps.specs.Pinning.{with_pins}
 use Rattle.gc_steps.specs.declared.collection.Collection.{Collection}
 use Rattle.gc_steps.specs.declared.collection.Stage.{Stage}
 use Rattle.gc_steps.specs.declared.collection.Stage.TheVariants.{Sweep}
@@ -36,9 +33,11 @@ use Rattle.gc_steps.proofs.ChildTrees.{leaf_apart}
 use Rattle.gc_steps.proofs.ClaimedPin.{one_more}
 use Rattle.gc_steps.proofs.Marked.{marks_none}
 use Rattle.gc_steps.proofs.PinnedTrees.{pin_found}
-use Rattle.gc_steps.proofs.SealedPins.{key_found}
+use Rattle.std.specs.Prelude.{take, ◌+◌, ◌-◌}
+use Rattle.ingest_steps.specs.Offering.{with_pins_of}
+use Rattle.store_core.specs.Collecting.{keys_in}
 use Rattle.store_core.specs.Frame.{HadContainer}
-use Rattle.store_core.proofs.Frames.{still_there}
+use Rattle.store_core.proofs.ManySealed.{comes_all, pins_all}
 use Rattle.core_machine.proofs.LiveTrees.{below_on, live_below, live_on}
 use Rattle.core_machine.proofs.PlainSteps.{IsPlainStep}
 
@@ -80,24 +79,15 @@ kept_tells (asked.Claim seg) (Ok answers.Held) key = elim (contains_tells (segme
   | inl there ↦ inl ((contains_one (segment_key seg.kind seg.segment) key).0 there)
   | inr other ↦ inr (λ same. other ((contains_one (segment_key seg.kind seg.segment) key).1 same))
 ]
-kept_tells (asked.Seal filled) (Ok (answers.Sealed id)) key = contains_tells (map (segment_key filled.kind) filled.segments) key
+kept_tells (asked.Seal offered) (Ok (answers.Sealed id count)) key = contains_tells (keys_in (take count offered)) key
 kept_tells step answer key = inr (λ none. none)
 
 -- ---- copies
 
-no_entry : (kind : Kind) (xs : List Segment) (key : List ℕ) → (Contains (map (segment_key kind) xs) key → ⊥) → entry_of kind (entries_from 0 xs) key ≡ None
-no_entry kind xs key other = by_found (entry_of kind (entries_from 0 xs) key) refl
-  where
-    by_found : (found : Option Entry) → entry_of kind (entries_from 0 xs) key ≡ found → entry_of kind (entries_from 0 xs) key ≡ None
-    by_found None none = none
-    by_found (Some e) found = absurd (other (key_found kind 0 xs key e found))
-
 -- the newest copy of a key that a step doesn't keep is the same
 newest_kept : (s t : Store) (step : StepValue) (answer : Result Answer Refusal) → ChangesTo (changes_by step answer) s t → (key : List ℕ) → (IsKeptKey step answer key → ⊥)
     → newest 0 t.held key ≡ newest 0 s.held key
-newest_kept s t (asked.Seal filled) (Ok (answers.Sealed id)) chain key other =
-    ap (λ (u : Store). newest 0 u.held key) chain.1
-    ∙ newest_without 0 (header_of id filled.kind filled.segments) s.held key (omega (arith, chain.0.slot)) (no_entry filled.kind filled.segments key other)
+newest_kept s t (asked.Seal offered) (Ok (answers.Sealed id count)) chain key other = (comes_all (id + 1 - count) (take count offered) s t chain).same key other
 newest_kept s t (asked.Commit name root) (Ok answer) chain key other = ap (λ (u : Store). newest 0 u.held key) chain.1
 newest_kept s t (asked.Delete name) (Ok answer) chain key other = ap (λ (u : Store). newest 0 u.held key) chain.1
 newest_kept s t step answer chain key other = ap (λ (u : Store). newest 0 u.held key) chain
@@ -107,9 +97,8 @@ abbrev pub StandOn : Store → Store → Type 0
 StandOn store after = (slot : ℕ) (h : HeaderValue) → slice_get store.held slot ≡ Some (Some h) → slice_get after.held slot ≡ Some (Some h)
 
 pub stands_by : (store after : Store) (step : StepValue) (answer : Result Answer Refusal) → ChangesTo (changes_by step answer) store after → StandOn store after
-stands_by store after (asked.Seal filled) (Ok (answers.Sealed id)) chain slot h there =
-    subst (λ (s : Store). slice_get s.held slot ≡ Some (Some h)) (sym chain.1)
-    (still_there store.held (header_of id filled.kind filled.segments) (omega (arith, chain.0.slot)) slot h there)
+stands_by store after (asked.Seal offered) (Ok (answers.Sealed id count)) chain slot h there =
+    (comes_all (id + 1 - count) (take count offered) store after chain).stand slot h there
 stands_by store after (asked.Commit name root) (Ok answer) chain slot h there = subst (λ (s : Store). slice_get s.held slot ≡ Some (Some h)) (sym chain.1) there
 stands_by store after (asked.Delete name) (Ok answer) chain slot h there = subst (λ (s : Store). slice_get s.held slot ≡ Some (Some h)) (sym chain.1) there
 stands_by store after step answer chain slot h there = subst (λ (s : Store). slice_get s.held slot ≡ Some (Some h)) (sym chain) there
@@ -148,22 +137,6 @@ within_parts (p ∷ ps) (suc actor) some = let rest = within_parts ps actor some
 writes_within : (parts : List Part) (actor : ℕ) (pins : PinMap) → part_of parts actor ≡ Writing pins → actor < length parts
 writes_within parts actor pins writing = within_parts parts actor (λ idle. let wrong : Idle ≡ Writing pins = sym idle ∙ writing in cc)
 
--- what is pinned stays so where segments are pinned
-pinned_still : (kind : Kind) (xs : List Segment) (pins : PinMap) (key : List ℕ) → IsPartKey (Writing pins) key → IsPartKey (Writing (with_pins kind xs pins)) key
-pinned_still kind [] pins key is = is
-pinned_still kind (x ∷ xs) pins key is =
-    pinned_still kind xs (finite.insert pins (segment_key kind x) (pin_by kind x)) key ((one_more pins (segment_key kind x) (pin_by kind x) key).1 (inl is))
-
--- and these are
-pinned_all : (kind : Kind) (xs : List Segment) (pins : PinMap) (key : List ℕ) → Contains (map (segment_key kind) xs) key → IsPartKey (Writing (with_pins kind xs pins)) key
-pinned_all kind [] pins key there = absurd (contains_none key there)
-pinned_all kind (x ∷ xs) pins key there =
-    let more : PinMap = finite.insert pins (segment_key kind x) (pin_by kind x) in
-    elim (contains_first (segment_key kind x) key (map (segment_key kind) xs) there) [
-      | inl same ↦ pinned_still kind xs more key ((one_more pins (segment_key kind x) (pin_by kind x) key).1 (inr same))
-      | inr later ↦ pinned_all kind xs more key later
-    ]
-
 -- An actor has the key pinned.
 record IsPinnedBy (parts : List Part) (actor : ℕ) (key : List ℕ) : Type 0 where
   pins : PinMap
@@ -188,12 +161,12 @@ kept_pinned step actor answer buf old new row key kept = by_step step answer row
           writing = pins_now may.pins (finite.insert may.pins (key_of_seg seg) (pin_of seg)) may.writing row.claimed.parts_are;
           pinned = (one_more may.pins (key_of_seg seg) (pin_of seg) key).1 (inr same);
         }
-    by_step (asked.Seal filled) (Ok (answers.Sealed id)) row there =
+    by_step (asked.Seal offered) (Ok (answers.Sealed id count)) row there =
         let may = row.may in
         record {
-          pins = with_pins filled.kind filled.segments may.pins;
-          writing = pins_now may.pins (with_pins filled.kind filled.segments may.pins) may.writing row.parts_are;
-          pinned = pinned_all filled.kind filled.segments may.pins key there;
+          pins = with_pins_of (take count offered) may.pins;
+          writing = pins_now may.pins (with_pins_of (take count offered) may.pins) may.writing row.parts_are;
+          pinned = (pins_all (take count offered) may.pins key).1 (inr there);
         }
     by_step step answer row none = absurd none
 
@@ -236,7 +209,7 @@ unmarked P (Some c) now none same = (c.live, (same, marks_none P c.live none))
 marks_kept : (step : StepValue) (answer : Result Answer Refusal) (old new : CoreState) → IsPlainStep step → Collects step answer old new
     → MarksIn (IsKeptKey step answer) old.collection new.collection
 marks_kept (asked.Claim seg) answer old new plain collects = collects
-marks_kept (asked.Seal filled) answer old new plain collects = collects
+marks_kept (asked.Seal offered) answer old new plain collects = collects
 marks_kept (asked.GcStart percent) answer old new plain collects = absurd plain
 marks_kept asked.GcStep answer old new plain collects = absurd plain
 marks_kept step answer old new plain collects = unmarked (IsKeptKey step answer) old.collection new.collection (λ key none. none) collects

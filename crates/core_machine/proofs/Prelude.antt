@@ -100,7 +100,7 @@ pub use Rattle.store_core.proofs.CopiesOnce.{listed_of}
 pub use Rattle.store_core.proofs.CoreRuns.{running_step}
 pub use Rattle.store_core.proofs.Crashes.{last_at, opens_at}
 pub use Rattle.store_core.proofs.Damage.{IsHarmless, MayClash, never_damaged}
-pub use Rattle.store_core.proofs.Frames.{first_with}
+pub use Rattle.gc_steps.proofs.SealedPins.{there_now}
 pub use Rattle.store_core.proofs.GcSteps.{phase_of}
 pub use Rattle.store_core.proofs.KeepingFiles.{NextOn}
 pub use Rattle.store_core.proofs.KeepingSegments.{data_level, stays_settled}
@@ -111,9 +111,9 @@ pub use Rattle.store_core.proofs.RunningOn.{step_runs}
 pub use Rattle.store_core.proofs.AtStore.{led_to, same_some}
 pub use Rattle.store_core.proofs.Stepping.{step_later}
 pub use Rattle.store_core.specs.Collecting.{Collects, GcEffect, GcRow, GoesOn as CoreGoesOn, IsKeptKey, IsNotMade, MarksIn, StartRow, TouchesBy, at_moment}
-pub use Rattle.store_core.specs.Core.{AbortRow, AnswersStopped, BeginRow, ClaimRow, CommitRow, DeleteRow, Effect, EndRow, ListRow, NamesOne, OpenRow, ReadRow, Rests, Row, SealRow, SealsOne, StatRow, Steps, StepsOr, StopsAfter, counted, next_id}
+pub use Rattle.store_core.specs.Core.{AbortRow, AnswersStopped, BeginRow, ChangesTo, ClaimRow, CommitRow, DeleteRow, Effect, EndRow, ListRow, NamesOne, OpenRow, ReadRow, Rests, Row, SealRow, SealsSome, StatRow, Steps, StepsOr, StopsAfter, counted, next_id}
 pub use Rattle.store_core.specs.Opening.{IsReadFrom, OpensCore, OpensNone, WritesUnread}
-pub use Rattle.store_core.specs.Runs.{ChangesTo, FileEvent, FileStep, IsAt, IsGivenRight, IsNoGcStep, IsSafeIn, changes_by, stored_by, stored_with}
+pub use Rattle.store_core.specs.Runs.{FileEvent, FileStep, IsAt, IsGivenRight, IsNoGcStep, IsSafeIn, changes_by, stored_by, stored_with}
 pub use Rattle.store_core.specs.State.{CoreState, Event, IsRunning, IsUnderWayIn, IsUp, UnlessStopped}
 pub use Rattle.store_core.specs.declared.stop.Stop.{Stop}
 pub use Rattle.store_machine.proofs.Parts.{FilePart}

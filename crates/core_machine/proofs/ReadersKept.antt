@@ -7,8 +7,11 @@ use Rattle.actor_parts.specs.declared.step.Answer.TheVariants as answers
 use Rattle.actor_parts.specs.Parts.{part_of, with_part}
 use Rattle.actor_parts.specs.StepValue as steps
 use Rattle.refusals.specs.declared.refusal.Refusal.TheVariants as refusals
-use Rattle.store_machine.specs.Machine.{Idle}
-use Rattle.store_machine.proofs.Added.{seals_alone}
+use Rattle.std.specs.Prelude.{take}
+use Rattle.container_meta.specs.Segments.{Contents}
+use Rattle.store_machine.specs.Machine.{Idle, Writing}
+use Rattle.store_machine.specs.Needs.{with_pins}
+use Rattle.store_machine.specs.Offers.{AddsContainers}
 use Rattle.core_machine.proofs.RefusedSteps.{IsNoRead, refused_left}
 
 -- it opens no file, and reads none on
@@ -55,8 +58,8 @@ module _ (old new : CoreState) (a : ℕ) (buf : List ℕ) (x : ℕ) (reader : Re
   core_kept (steps.Claim seg) (Ok answers.Held) other row = put _ (λ r is. cc) row.claimed.parts_are
   core_kept (steps.Claim seg) (Ok answers.Absent) other row = same row.claimed.parts_are
   core_kept (steps.Claim seg) (Err refusal) other row = same row.1
-  core_kept (steps.Seal filled) (Ok (answers.Sealed id)) other row = put _ (λ r is. cc) row.parts_are
-  core_kept (steps.Seal filled) (Err refusal) other row = same row.1
+  core_kept (steps.Seal offered) (Ok (answers.Sealed id count)) other row = put _ (λ r is. cc) row.parts_are
+  core_kept (steps.Seal offered) (Err refusal) other row = same row.1
   core_kept (steps.Commit name root) (Ok (answers.Committed sequence)) other row = put core.Idle (λ r is. cc) row.2
   core_kept (steps.Commit name root) (Err refusal) other row = same row.1
   core_kept steps.Abort (Ok answers.Aborted) other row = put core.Idle (λ r is. cc) row.1
@@ -84,6 +87,14 @@ module _ (old new : CoreState) (a : ℕ) (buf : List ℕ) (x : ℕ) (reader : Re
 pub parts_as : {n k : FileMachine} → n ≡ k → n.parts ≡ k.parts
 parts_as is = ap (λ (x : FileMachine). x.parts) is
 
+-- before containers were added it was read, too
+read_before : (a x : ℕ) (file : List ℕ) (rest : List (List ℕ)) (cs : List Contents) (m n : FileMachine) → AddsContainers a cs m n → part_in n x ≡ Reading file rest
+    → part_in m x ≡ Reading file rest
+read_before a x file rest [] m n is reads = subst (λ (k : FileMachine). part_in k x ≡ Reading file rest) is reads
+read_before a x file rest (c ∷ cs) m n (mid, one, later) reads =
+    file_set m.parts a (Writing (with_pins c.kind c.segments one.pins)) (λ f l no. cc) x file rest
+    (subst (λ (ps : List FilePart). slice_index_or ps x Idle ≡ Reading file rest) (parts_as one.others) (read_before a x file rest cs mid n later reads))
+
 module _ (m n : FileMachine) (a : ℕ) (bytes buf : List ℕ) (x : ℕ) (file : List ℕ) (rest : List (List ℕ)) (reads : part_in n x ≡ Reading file rest) where
   abbrev IsRead : Type 0
   IsRead = part_in m x ≡ Reading file rest
@@ -102,7 +113,7 @@ module _ (m n : FileMachine) (a : ℕ) (bytes buf : List ℕ) (x : ℕ) (file : 
   no_read steps.ReadNext other = absurd other
   no_read steps.Begin other = tt
   no_read (steps.Claim seg) other = tt
-  no_read (steps.Seal filled) other = tt
+  no_read (steps.Seal offered) other = tt
   no_read (steps.Commit name root) other = tt
   no_read steps.Abort other = tt
   no_read steps.EndRead other = tt
@@ -123,8 +134,7 @@ module _ (m n : FileMachine) (a : ℕ) (bytes buf : List ℕ) (x : ℕ) (file : 
   file_kept steps.Begin (Ok answers.Begun) other is = put_at_other _ (λ f l no. cc) (parts_as is.1)
   file_kept (steps.Claim seg) (Ok answers.Held) other is = put_at_other _ (λ f l no. cc) (parts_as is.others)
   file_kept (steps.Claim seg) (Ok answers.Absent) other is = stays (parts_as is.2)
-  file_kept (steps.Seal filled) (Ok (answers.Sealed id)) other is =
-      put_at_other _ (λ f l no. cc) (parts_as (seals_alone of_files a filled id 1 m n is).0.others)
+  file_kept (steps.Seal offered) (Ok (answers.Sealed id count)) other is = read_before a x file rest (take count offered) m n is.adds reads
   file_kept (steps.Commit name root) (Ok (answers.Committed sequence)) other is = put_at_other Idle (λ f l no. cc) (parts_as is.others)
   file_kept steps.Abort (Ok answers.Aborted) other is = put_at_other Idle (λ f l no. cc) (parts_as is.1)
   file_kept (steps.OpenRead name) (Ok answer) other is = absurd other

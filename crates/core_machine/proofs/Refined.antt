@@ -149,14 +149,14 @@ module _ {followed : Bool} (c d : CoreState) (m : M) (at : IsMachine followed m 
       unnamed answer (asked.GcStart percent) (start_row c m at runs d percent a answer buf made.row made.effect under quiet.0 quiet.1)
   made_by steps.GcStep answer made collects stop count follows =
       gc_row c m at runs d a answer buf made.row made.effect under stop count follows
-  made_by (steps.Seal filled) answer made collects stop count follows =
-      unnamed answer (asked.Seal (filled ∷ [])) (seal_row c d m at runs a filled buf answer made.row made.effect collects under stop count)
+  made_by (steps.Seal offered) answer made collects stop count follows =
+      unnamed answer (asked.Seal offered) (seal_row c d m at runs a offered buf answer made.row made.effect collects under stop count)
 
 -- no step is an opening
 by_state : (s : StepValue) (a : ℕ) (told : Result Done Refusal) (m n : M) → ByState of_roots m.state a (asked_by s) told m n → LegalBy of_roots (asked_by s) a told m n
 by_state steps.Begin a told m n by = by
 by_state (steps.Claim seg) a told m n by = by
-by_state (steps.Seal filled) a told m n by = by
+by_state (steps.Seal offered) a told m n by = by
 by_state (steps.Commit name root) a told m n by = by
 by_state steps.Abort a told m n by = by
 by_state (steps.OpenRead name) a told m n by = by

@@ -425,7 +425,7 @@ module _ {followed : Bool} (c : CoreState) (m : M) (at : IsMachine followed m c)
         → StopsAfter (steps.Delete name) answer c.acknowledged d.stop → d.acknowledged ≡ counted answer c.acknowledged
         → Left a (asked.Delete name) (answered_by answer buf)
     delete_row name a (Ok (answers.Deleted sequence)) buf (may, is, same, held) effect collects stop count =
-        let can = (effect.made.alone.store_has m.store at.represents at.valid at.free).can.0 in (
+        let can = (effect.made.alone.store_has m.store at.represents at.valid at.free).can.0.0 in (
           remove name,
           record {
             named = may.named;
@@ -623,7 +623,7 @@ module _ {followed : Bool} (c : CoreState) (m : M) (at : IsMachine followed m c)
         → NamesOne name (Put root) answer c d → d.collection ≡ c.collection → StopsAfter (steps.Commit name root) answer c.acknowledged d.stop
         → d.acknowledged ≡ counted answer c.acknowledged → Left a (asked.Commit name root) (answered_by answer buf)
     commit_row name root a (Ok (answers.Committed sequence)) buf (may, is, parts_are, held) effect collects stop count =
-        let can = (effect.made.alone.store_has m.store at.represents at.valid at.free).can in (
+        let can = (effect.made.alone.store_has m.store at.represents at.valid at.free).can.0 in (
           named a name root,
           record {
             may = may_commit a name root may;

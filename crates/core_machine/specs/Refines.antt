@@ -82,7 +82,7 @@ pub record IsMachine (followed : Bool) (m : Machine Root (List Top)) (c : CoreSt
 
 -- ---- steps and answers
 
--- as the machine asks it: of one container, which a core seals by a step; of a root that a commit is given as this value
+-- as the machine asks it: of a root that a commit is given as this value
 abbrev pub asked_as : {V : Type 0} → (Root → V) → StepValue → Asked V
 asked_as value steps.Begin = asked.Begin
 asked_as value steps.Abort = asked.Abort
@@ -91,7 +91,7 @@ asked_as value steps.ReadNext = asked.ReadNext
 asked_as value steps.EndRead = asked.EndRead
 asked_as value (steps.Delete name) = asked.Delete name
 asked_as value (steps.Claim seg) = asked.Claim seg
-asked_as value (steps.Seal filled) = asked.Seal (filled ∷ [])
+asked_as value (steps.Seal offered) = asked.Seal offered
 asked_as value (steps.Commit name root) = asked.Commit name (value root)
 asked_as value steps.ListNames = asked.ListNames
 asked_as value (steps.GcStart percent) = asked.GcStart percent
@@ -105,7 +105,7 @@ abbrev pub answered_by : Result Answer Refusal → List ℕ → Result Done Refu
 answered_by (Ok answers.Begun) buf = Ok done.Begun
 answered_by (Ok answers.Held) buf = Ok done.Held
 answered_by (Ok answers.Absent) buf = Ok done.Absent
-answered_by (Ok (answers.Sealed id)) buf = Ok (done.Sealed id 1)
+answered_by (Ok (answers.Sealed id count)) buf = Ok (done.Sealed id count)
 answered_by (Ok (answers.Committed sequence)) buf = Ok (done.Committed sequence)
 answered_by (Ok answers.Aborted) buf = Ok done.Aborted
 answered_by (Ok (answers.Opened count)) buf = Ok (done.Opened count)

@@ -97,7 +97,7 @@ module _ (C : Type 0) (state : C → CoreState) (v w : DiskView) (old new : C) (
       can : CanChangeName name Gone store
       can =
           let on = opened_on C state v w old new called in
-          (effect.made.can.store_has store on.represents on.valid on.has_free).0
+          (effect.made.can.store_has store on.represents on.valid on.has_free).0.0
 
       -- the journal of the disk now is that without the name
       names_without : (base : List ℕ) → v.content ≡ Some base → StandsFor (HasJournal (with_change name Gone store)) w

@@ -1,22 +1,22 @@
 -- A session that is fed a file, call by call.
-use Rattle.backup_engine.proofs.Prelude.{◌≡◌, ◌⊎◌, inl, inr, ◌∙◌, ℕ, false, List, [], ◌∷◌, ◌++◌, map, Some, None, refl, sym, ap, subst, Kind, Leaf, Tree, KindSegment, Segment, Answer, kept_of, FileEvent, CoreState, Claim, Seal, IsEnding, due_in, item_kind, open_of, History, HasHistory, IsBegun, answered, no_history, IsItem, SessionState, turn_node, told_by, in_left, in_right, IsFed, MayBe, opens_of, AreNew, Way, IsOneOf, item_is, one_item}
-use Rattle.std.proofs.Common.{append_assoc}
+use Rattle.backup_engine.proofs.Prelude.{◌≡◌, ◌⊎◌, inl, inr, ◌∙◌, ◌≤◌, ℕ, false, List, [], ◌∷◌, ◌++◌, map, Some, None, refl, sym, ap, subst, Kind, Leaf, Tree, KindSegment, Segment, Answer, kept_of, FileEvent, CoreState, Claim, Seal, IsEnding, due_in, item_kind, History, HasHistory, IsBegun, answered, no_history, IsItem, SessionState, turn_node, told_by, in_left, in_right, IsFed, MayBe, opens_of, AreNew, Way, IsOneOf, item_is, one_item}
+use Rattle.std.proofs.Common.{append_assoc, take}
+use Rattle.container_meta.specs.Segments.{Contents}
 use Rattle.actor_parts.specs.declared.step.Answer.TheVariants as answers
 use Rattle.ingest_session.specs.Calls.{IsTaking}
 use Rattle.ingest_session.specs.Facts.{IsKept}
-use Rattle.ingest_session.specs.History.{Places}
-use Rattle.ingest_session.specs.Settling.{KeepsOpen}
-use Rattle.session_turns.proofs.Told.{told}
+use Rattle.ingest_session.specs.Due.{offered_in}
+use Rattle.ingest_session.specs.History.{KeepsOpen, Places}
+use Rattle.ingest_session.proofs.Staying.{told}
 use Rattle.ingest_session.proofs.KeptPieces.{kept_absent, kept_held, kept_sealed}
+use Rattle.ingest_session.proofs.SealsSome.{offer_kinds}
+use Rattle.ingest_session.proofs.Waiting.{session_of}
+use Rattle.ingest_session.proofs.Sealing.{ending_unsealed, new_unsealed, taking_unsealed}
 use Rattle.ingest_session.proofs.OpenOn.{opens_held}
-use Rattle.backup_engine.proofs.FedOpens.{one_of_map, opens_stay}
+use Rattle.store_core.specs.Keeping.{segments_in}
+use Rattle.store_machine.proofs.OfOneKind.{all_taken}
+use Rattle.backup_engine.proofs.FedOpens.{one_in}
 use Rattle.backup_engine.proofs.Ways.{way_as}
-
--- ---- a new session
-
-none_open : (kind : Kind) (s : SessionState) → s.leaves.segments ≡ [] → s.nodes.segments ≡ [] → s.waits ≡ false → opens_of s kind ≡ []
-none_open Leaf s leaves nodes waits = rw (leaves, waits) refl
-none_open Tree s leaves nodes waits = rw (nodes, waits) refl
 
 -- ---- which files it may be
 
@@ -45,19 +45,16 @@ module _ (C : Type 0) (state : C → CoreState) where
 
   pub fed_begun : (s : SessionState) (start old : C) → IsBegun s → HasHistory s no_history → (w : Way C state (MayBe [] s) (λ kind. []) start old) → IsFed C state [] s start old
   fed_begun s start old begun has w =
-      let none : (kind : Kind) → opens_of s kind ≡ [] = λ kind. by_kind kind in
+      let none : (kind : Kind) → opens_of s kind ≡ [] = λ kind. new_unsealed kind s begun in
       let way = way_as C state (MayBe [] s) (λ kind. []) start old w (MayBe [] s) (opens_of s) (λ file is. is)
       (λ kind places fresh. subst (AreNew places kind) (sym (none kind)) tt) in
       record { history = no_history; has = has; given_is = refl; way = way.0; told = λ kind x is. absurd (let no : None ≡ Some x = is.1 in cc) }
-    where
-      by_kind : (kind : Kind) → opens_of s kind ≡ []
-      by_kind kind = none_open kind s begun.leaves begun.nodes begun.waits
 
   pub fed_due : (given : List ℕ) (s t : SessionState) (start old : C) → IsFed C state given s start old → Places s t → KeepsOpen s t → IsFed C state given t start old
   fed_due given s t start old fed places keeps =
       let moved = places fed.history fed.has in
       fed_as given given s t start old fed (record fed.history { placed = fed.history.placed ++ moved.0 }) moved.1 fed.given_is (λ kind x is. is)
-      (λ file is. may_be_still given s t file keeps.ended is) (λ kind. opens_stay s t kind keeps.leaves keeps.nodes keeps.waits keeps.item)
+      (λ file is. may_be_still given s t file keeps.ended is) keeps.unsealed
 
   pub fed_pushed : (given bytes : List ℕ) (s t : SessionState) (start old : C) → IsFed C state given s start old → s.ended ≡ false → IsTaking bytes s t
       → ((h : History) → HasHistory s h → HasHistory t (record h { given = h.given ++ bytes })) → IsFed C state (given ++ bytes) t start old
@@ -65,16 +62,14 @@ module _ (C : Type 0) (state : C → CoreState) where
       fed_as given (given ++ bytes) s t start old fed (record fed.history { given = fed.history.given ++ bytes }) (history fed.history fed.has)
       (ap (λ (l : List ℕ). l ++ bytes) fed.given_is) (λ kind x is. is)
       (λ file is. (bytes ++ is.0, λ on. absurd (let both = sym ongoing ∙ on in cc), is.2 ∙ append_assoc given bytes is.0))
-      (λ kind. opens_stay s t kind (ap (λ (x : SessionState). x.leaves) taking.others) (ap (λ (x : SessionState). x.nodes) taking.others)
-      (ap (λ (x : SessionState). x.waits) taking.others) taking.item)
+      (λ kind. taking_unsealed kind bytes s t taking)
 
   pub fed_ended : (given : List ℕ) (s t : SessionState) (start old : C) → IsFed C state given s start old → IsEnding s t → ((h : History) → HasHistory s h → HasHistory t h) →
       IsFed C state given t start old
   fed_ended given s t start old fed ending history =
       fed_as given given s t start old fed fed.history (history fed.history fed.has) fed.given_is (λ kind x is. is)
       (λ file is. (is.0, λ on. absurd (let both = sym ending.ongoing ∙ on in cc), is.2))
-      (λ kind. opens_stay s t kind (ap (λ (x : SessionState). x.leaves) ending.others) (ap (λ (x : SessionState). x.nodes) ending.others)
-      (ap (λ (x : SessionState). x.waits) ending.others) ending.item)
+      (λ kind. ending_unsealed kind s t ending)
 
   -- ---- what it is told
 
@@ -128,14 +123,15 @@ module _ (C : Type 0) (state : C → CoreState) where
         → IsFed C state given (told_by answers.Absent s) start new
     fed_absent on has = fed_on answers.Absent [] on has (λ kind x is. inl (kept_absent s fed.history kind x is))
 
-    pub fed_sealed : (id : ℕ) (mine : Kind) → due_in s ≡ Seal mine
-        → WayOn (opens_of (told_by (answers.Sealed id) s)) (map (λ x. record { kind = mine; segment = x }) (open_of s mine).segments)
-        → HasHistory (told_by (answers.Sealed id) s) (answered (answers.Sealed id) s fed.history) → IsFed C state given (told_by (answers.Sealed id) s) start new
-    fed_sealed id mine due on has =
-        let as_kept : Segment → KindSegment = λ x. record { kind = mine; segment = x } in
-        fed_on (answers.Sealed id) (map as_kept (open_of s mine).segments) on has
-        (λ kind x is. elim (kept_sealed s fed.history kind x id mine due is) [
+    pub fed_sealed : (id count : ℕ) (mine : Kind) → due_in s ≡ Seal mine
+        → WayOn (opens_of (told_by (answers.Sealed id count) s)) (segments_in (take count (offered_in s mine)))
+        → HasHistory (told_by (answers.Sealed id count) s) (answered (answers.Sealed id count) s fed.history)
+        → IsFed C state given (told_by (answers.Sealed id count) s) start new
+    fed_sealed id count mine due on has =
+        let sealed : List Contents = take count (offered_in s mine) in
+        fed_on (answers.Sealed id count) (segments_in sealed) on has
+        (λ kind x is. elim (kept_sealed s fed.history kind x id count mine due is) [
           | inl before ↦ inl before
-          | inr now ↦ inr (subst (λ (k : Kind). IsOneOf (record { kind = k; segment = x }) (map as_kept (open_of s mine).segments)) (sym now.0)
-              (one_of_map as_kept x (open_of s mine).segments now.1))
+          | inr now ↦ inr (subst (λ (k : Kind). IsOneOf (record { kind = k; segment = x }) (segments_in sealed)) (sym now.0)
+              (one_in mine sealed (all_taken (λ c. c.kind ≡ mine) count (offered_in s mine) (offer_kinds s mine (session_of s fed.history fed.has))) x now.1))
         ])

@@ -1,7 +1,12 @@
 -- What stays of a disk that held a store, where closed slots and a record are written.
-use Rattle.backup_engine.proofs.Prelude.{◌≡◌, ◌≢◌, ◌⊎◌, inl, inr, ℕ, zero, suc, ◌+◌, ◌<◌, ◌≤◌, Bool, true, false, List, [], ◌∷◌, length, Option, Some, None, refl, sym, ◌∙◌, ap, subst, arith, nat_lt, AllByRecursion, ltb-true, ltb-false, range, byte_at, CELL_BYTES, SLOT_BYTES, RESERVE, Root, Put, half_cells, cell_at, slot_at, HeaderValue, SameBefore, Store, Encodes, free_slots, first_free, with_slot, HasJournal, StoreChange, SealContainer, ChangeName, FlushContainer, FreeContainer, with_change, ChangesTo, StandsStill, SameButSlotOf, JournalValue, has_journal, has_kept, SameButRecordBy, MayChange}
+use Rattle.backup_engine.proofs.Prelude.{one_of, ◌≡◌, ◌≢◌, ◌⊎◌, inl, inr, ℕ, zero, suc, ◌+◌, ◌<◌, ◌≤◌, Bool, true, false, List, [], ◌∷◌, length, Option, Some, None, refl, sym, ◌∙◌, ap, subst, arith, nat_lt, AllByRecursion, ltb-true, ltb-false, range, byte_at, CELL_BYTES, SLOT_BYTES, RESERVE, Root, Put, half_cells, cell_at, slot_at, HeaderValue, SameBefore, Store, Encodes, free_slots, first_free, with_slot, HasJournal, StoreChange, SealContainer, ChangeName, FlushContainer, FreeContainer, with_change, ChangesTo, StandsStill, JournalValue, has_journal, has_kept, SameButRecordBy, MayChange}
 use Rattle.disk_format.specs.declared.numbers.TheConstants.{FIRST_SLOT, FIRST_HALF, CONTAINER_GATE}
 use Rattle.disk_format.specs.Cells.{Change}
+use Rattle.container_log.specs.Many.{NoSlot, placed}
+use Rattle.container_meta.specs.Segments.{Contents}
+use Rattle.ingest_steps.specs.Offering.{in_free}
+use Rattle.ingest_steps.specs.SealingAll.{SameButSlotsOf, slots_of}
+use Rattle.store_state.specs.Tables.{closed_from}
 use Rattle.reply_text.specs.declared.ending.Ending.{Ending}
 use Rattle.store_model.specs.Slots.{HoldSlots}
 use Rattle.store_model.specs.Steps.{changed, with_cell, with_other}
@@ -34,12 +39,12 @@ closed_with zero slot h (Some g ∷ cs) image closed = closed
 closed_with (suc place) slot h (None ∷ cs) image closed = (closed.0, closed_with place (slot + 1) h cs image closed.1)
 closed_with (suc place) slot h (Some g ∷ cs) image closed = closed_with place (slot + 1) h cs image closed
 
--- the first of them is
-first_shut : (place slot : ℕ) (held : List (Option HeaderValue)) (image : List ℕ) → place ≡ slot + first_free held → first_free held < length held → AreClosed slot held image
-    → byte_at (slot_at place) image ≢ CONTAINER_GATE
-first_shut place slot [] image is within closed = absurd (omega arith)
-first_shut place slot (None ∷ cs) image is within closed = λ opened. closed.0 (ap (λ (s : ℕ). byte_at (slot_at s) image) (omega (arith, is)) ∙ opened)
-first_shut place slot (Some h ∷ cs) image is within closed = first_shut place (slot + 1) cs image (omega (arith, is)) (omega (arith, within)) closed
+-- each of them is
+closed_shut : (slot : ℕ) (held : List (Option HeaderValue)) (image : List ℕ) → AreClosed slot held image
+    → AllByRecursion (λ s. byte_at (slot_at s) image ≢ CONTAINER_GATE) (closed_from slot held)
+closed_shut slot [] image closed = tt
+closed_shut slot (None ∷ cs) image closed = (closed.0, closed_shut (suc slot) cs image (subst (λ (n : ℕ). AreClosed n cs image) (omega arith) closed.1))
+closed_shut slot (Some h ∷ cs) image closed = closed_shut (suc slot) cs image (subst (λ (n : ℕ). AreClosed n cs image) (omega arith) closed)
 
 -- ---- what of an image a store leaves free
 
@@ -91,10 +96,16 @@ module _ (first store : Store) (is : store ≡ record first { held = store.held 
   change_later name change image has =
       subst (λ (s : Store). HasJournal (with_change name change s) image) (sym is) (record { holds = has.holds; other = has.other })
 
--- its first free slot is closed there
-pub first_is_shut : (first : Store) (base : List ℕ) (store : Store) → IsFreeIn first base store → first_free store.held < length store.held →
-    byte_at (slot_at (first_free store.held)) base ≢ CONTAINER_GATE
-first_is_shut first base store free within = first_shut (first_free store.held) 0 store.held base (omega arith) within free.free
+-- the slots that containers are placed in are closed there
+pub placed_shut : (base : List ℕ) (slots : List ℕ) (id : ℕ) (cs : List Contents) → AllByRecursion (λ s. byte_at (slot_at s) base ≢ CONTAINER_GATE) slots
+    → AllByRecursion (λ s. byte_at (slot_at s) base ≢ CONTAINER_GATE) (slots_of (placed slots id cs))
+placed_shut base [] id cs shut = tt
+placed_shut base (s ∷ ss) id [] shut = tt
+placed_shut base (s ∷ ss) id (c ∷ cs) shut = (shut.0, placed_shut base ss (suc id) cs shut.1)
+
+pub free_are_shut : (first : Store) (base : List ℕ) (store : Store) → IsFreeIn first base store → (id : ℕ) (cs : List Contents)
+    → AllByRecursion (λ s. byte_at (slot_at s) base ≢ CONTAINER_GATE) (slots_of (in_free id cs store))
+free_are_shut first base store free id cs = placed_shut base (closed_from 0 store.held) id cs (closed_shut 0 store.held base free.free)
 
 -- ---- what stays
 
@@ -116,22 +127,28 @@ module _ (slots : ℕ) (base old : List ℕ) (keeps : KeepsSlots slots base old)
     containers = λ slot within opened. same.before (slot_at slot) SLOT_BYTES (omega (arith, within)) ∙ keeps.containers slot within opened;
   }
 
-  -- where a closed slot changes
-  pub slots_sealed : (slot : ℕ) (new : List ℕ) → byte_at (slot_at slot) base ≢ CONTAINER_GATE → SameButSlotOf slots slot old new → KeepsSlots slots base new
-  slots_sealed slot new shut same = record {
+  -- where closed slots change
+  pub slots_sealed : (taken : List ℕ) (new : List ℕ) → AllByRecursion (λ s. byte_at (slot_at s) base ≢ CONTAINER_GATE) taken → SameButSlotsOf slots taken old new
+      → KeepsSlots slots base new
+  slots_sealed taken new shut same = record {
     size_is = same.size ∙ keeps.size_is;
-    front = λ p n within. same.before p n (omega (arith, within)) ∙ keeps.front p n within;
-    containers = λ other within opened. other_slot other within opened ∙ keeps.containers other within opened;
+    front = λ p n within. same.same p n (none_before p n within, omega (arith, within)) ∙ keeps.front p n within;
+    containers = λ other within opened. same.same (slot_at other) SLOT_BYTES (none_open other opened, omega (arith, within)) ∙ keeps.containers other within opened;
   }
     where
-      below_or : (other : ℕ) (below : Bool) → nat_lt other slot ≡ below → other < slots → (other ≡ slot → ⊥) →
-          range (slot_at other) SLOT_BYTES new ≡ range (slot_at other) SLOT_BYTES old
-      below_or other true is within differ = same.before (slot_at other) SLOT_BYTES (omega (arith, ltb-true other slot is))
-      below_or other false is within differ =
-          same.after (slot_at other) SLOT_BYTES (omega (arith, ltb-false other slot is, differ)) (omega (arith, within))
+      none_before : (p n : ℕ) → p + n ≤ FIRST_SLOT → NoSlot taken p n
+      none_before p n within i slot here = inl (omega (arith, within))
 
-      other_slot : (other : ℕ) → other < slots → byte_at (slot_at other) base ≡ CONTAINER_GATE → range (slot_at other) SLOT_BYTES new ≡ range (slot_at other) SLOT_BYTES old
-      other_slot other within opened = below_or other (nat_lt other slot) refl within (λ is. shut (ap (λ (s : ℕ). byte_at (slot_at s) base) (sym is) ∙ opened))
+      apart : (other slot : ℕ) (below : Bool) → nat_lt other slot ≡ below → (other ≡ slot → ⊥)
+          → (slot_at other + SLOT_BYTES ≤ slot_at slot) ⊎ (slot_at slot + SLOT_BYTES ≤ slot_at other)
+      apart other slot true is differ = inl (omega (arith, ltb-true other slot is))
+      apart other slot false is differ = inr (omega (arith, ltb-false other slot is, differ))
+
+      -- an open slot is none of them
+      none_open : (other : ℕ) → byte_at (slot_at other) base ≡ CONTAINER_GATE → NoSlot taken (slot_at other) SLOT_BYTES
+      none_open other opened i slot here =
+          apart other slot (nat_lt other slot) refl
+          (λ is. one_of (λ s. byte_at (slot_at s) base ≢ CONTAINER_GATE) taken slot shut (i, here) (ap (λ (s : ℕ). byte_at (slot_at s) base) (sym is) ∙ opened))
 
 -- what was open stays
 module _ (store : Store) (base : List ℕ) (right : Encodes base store) (reserve : RESERVE ≤ free_slots store.held) (old : List ℕ) (keeps : KeepsSlots store.slots base old) where

@@ -1,10 +1,11 @@
 -- What steps kept of a file: its pieces, each pinned, and what two of one key are.
 use Rattle.backup_engine.proofs.Prelude.{both_so, ◌≡◌, ◌≢◌, ℕ, ◌==◌, Bool, true, false, cond, List, [], ◌∷◌, ◌++◌, length, map, Option, Some, None, Result, Ok, refl, sym, ◌∙◌, ap, subst, arith, AllByRecursion, bytes_eq-Decides, sha256, Kind, PlaceMap, KindSegment, Segment, segment_key, node_digest, Answer, PinMap, has_pin, KeyPin, children_by, pin_of, StepValue, Refusal, Piece, Data, Node, HasPieceOf, IsPieceOf, piece_bytes, piece_key, piece_segment, key_of_seg, first_unpinned_of, with_pins, kept_by, kept_of, FileEvent, all_map, all_then, in_left, in_right, one_of, HasTwins, IsPiece, AreKept, length_in, IsAskedFor, IsOneOf, IsPutStep}
-use Rattle.std.specs.Prelude.{if◌then◌else◌}
+use Rattle.std.specs.Prelude.{if◌then◌else◌, take}
 use Rattle.std.specs.FinMap as finite
 use Rattle.std.specs.Cmp.Lexicographic.{slice_cmp, nat_list_cmp_total}
 use Rattle.std.specs.Ordering.{nat_cmp, eq_by_cmp}
 use Rattle.std.proofs.lemmas.List.{append-nil, append_assoc}
+use Rattle.container_meta.specs.Segments as containers
 use Rattle.merkle_file.specs.Node.{Contents}
 use Rattle.actor_parts.specs.declared.pins.Pin.{Pin}
 use Rattle.actor_parts.specs.declared.step.Answer.TheVariants as answers
@@ -12,6 +13,9 @@ use Rattle.actor_parts.specs.PinMap.{is_pin}
 use Rattle.actor_parts.specs.Segments.{first_not_in, pin_by}
 use Rattle.actor_parts.specs.StepValue as asked
 use Rattle.store_model.proofs.Indexing.{tied}
+use Rattle.store_core.proofs.ManySealed.{all_taken}
+use Rattle.store_core.specs.Keeping.{segments_in}
+use Rattle.ingest_steps.specs.Offering.{first_unpinned_in, with_pins_of}
 use Rattle.ingest_steps.specs.Pinning.{or_else}
 use Rattle.ingest_session.proofs.Members.{in_first}
 use Rattle.backup_engine.specs.Putting.{HasPinOf}
@@ -38,11 +42,18 @@ is_piece file seg has = (
   ap (λ (x : KindSegment). length x.segment.bytes) has.2 ∙ long_as_piece has.0,
 )
 
+pieces_in : (file : List ℕ) (cs : List containers.Contents) → AllByRecursion (λ c. AllByRecursion (λ s. HasPieceOf file (of_kind c.kind s)) c.segments) cs
+    → AllByRecursion (HasPieceOf file) (segments_in cs)
+pieces_in file [] all = tt
+pieces_in file (c ∷ cs) all =
+    both_so (HasPieceOf file) (map (of_kind c.kind) c.segments) (segments_in cs) (all_map (HasPieceOf file) (of_kind c.kind) c.segments all.0) (pieces_in file cs all.1)
+
 -- what steps kept are pieces of the file
 kept_by_step : (name file : List ℕ) (step : StepValue) (answer : Result Answer Refusal) (put : List ℕ) → IsAskedFor name file step put →
     AllByRecursion (HasPieceOf file) (kept_by step answer)
 kept_by_step name file (asked.Claim seg) (Ok answers.Held) put has = (has, tt)
-kept_by_step name file (asked.Seal filled) (Ok (answers.Sealed id)) put has = all_map (HasPieceOf file) (of_kind filled.kind) filled.segments has
+kept_by_step name file (asked.Seal offered) (Ok (answers.Sealed id count)) put has =
+    pieces_in file (take count offered) (all_taken (λ c. AllByRecursion (λ s. HasPieceOf file (of_kind c.kind s)) c.segments) count offered has)
 kept_by_step name file step answer put has = tt
 
 pub kept_pieces : (name file : List ℕ) (steps : List FileEvent) → AllByRecursion (IsPutStep name file) steps → AllByRecursion (HasPieceOf file) (kept_of steps)
@@ -106,6 +117,14 @@ pinned_all kind (s ∷ ss) kept pins are =
     let more : PinMap = finite.insert pins (segment_key kind s) (pin_by kind s) in
     subst (λ (l : List KindSegment). ArePinned l (with_pins kind ss more)) (append_assoc kept (of_kind kind s ∷ []) (map (of_kind kind) ss))
     (pinned_all kind ss (kept ++ of_kind kind s ∷ []) more (pinned_next kept (of_kind kind s) pins are))
+
+-- and so it is with those of containers
+pub pinned_in : (cs : List containers.Contents) (kept : List KindSegment) (pins : PinMap) → ArePinned kept pins → ArePinned (kept ++ segments_in cs) (with_pins_of cs pins)
+pinned_in [] kept pins are = subst (λ (l : List KindSegment). ArePinned l pins) (sym (append-nil kept)) are
+pinned_in (c ∷ cs) kept pins are =
+    let more : PinMap = with_pins c.kind c.segments pins in
+    subst (λ (l : List KindSegment). ArePinned l (with_pins_of cs more)) (append_assoc kept (map (of_kind c.kind) c.segments) (segments_in cs))
+    (pinned_in cs (kept ++ map (of_kind c.kind) c.segments) more (pinned_all c.kind c.segments kept pins are))
 
 -- ---- twins
 
@@ -180,3 +199,14 @@ module _ (file : List ℕ) (kept : List KindSegment) (pins : PinMap) (places : P
       by_child None none further = further (sym (ap (λ (o : Option (List ℕ)). or_else o (first_unpinned_of kind ss pins)) none) ∙ is)
       by_child (Some k) found further =
           unpinned_twins (children_by kind s) key all.0 (found ∙ sym (ap (λ (o : Option (List ℕ)). or_else o (first_unpinned_of kind ss pins)) found) ∙ is)
+
+  pub in_unpinned_twins : (cs : List containers.Contents) (key : List ℕ)
+      → AllByRecursion (λ c. AllByRecursion (λ s. AllByRecursion (IsKeptChild kept) (children_by c.kind s)) c.segments) cs
+      → first_unpinned_in cs pins ≡ Some key → HasTwins file key
+  in_unpinned_twins [] key all is = absurd cc
+  in_unpinned_twins (c ∷ cs) key all is = by_first (first_unpinned_of c.kind c.segments pins) refl (λ more. in_unpinned_twins cs key all.1 more)
+    where
+      by_first : (o : Option (List ℕ)) → first_unpinned_of c.kind c.segments pins ≡ o → (first_unpinned_in cs pins ≡ Some key → HasTwins file key) → HasTwins file key
+      by_first None none further = further (sym (ap (λ (o : Option (List ℕ)). or_else o (first_unpinned_in cs pins)) none) ∙ is)
+      by_first (Some k) found further =
+          all_unpinned_twins c.kind c.segments key all.0 (found ∙ sym (ap (λ (o : Option (List ℕ)). or_else o (first_unpinned_in cs pins)) found) ∙ is)

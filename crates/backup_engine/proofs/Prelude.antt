@@ -156,12 +156,12 @@ pub use Rattle.store_core.proofs.RunningOn.{step_runs}
 pub use Rattle.store_core.proofs.SafeSteps.{alone}
 pub use Rattle.store_core.proofs.Stepping.{step_later}
 pub use Rattle.store_core.specs.Collecting.{GcRow, GoesOn, IsNotMade, StartRow, TouchesBy, at_moment}
-pub use Rattle.store_core.specs.Core.{CoreStep, Effect, IndexesAll, KeepsTables, Makes, NamesOne, OpenRow, ReadRow, Rests, SealsOne, Steps, StepsOr, StopsAfter, next_id}
+pub use Rattle.store_core.specs.Core.{ChangesTo, CoreStep, Effect, IndexesAll, KeepsTables, Makes, NamesOne, OpenRow, ReadRow, Rests, Steps, StepsOr, StopsAfter, next_id}
 pub use Rattle.store_core.specs.Frame.{HadContainer}
 pub use Rattle.store_core.specs.Keeping.{kept_by, kept_of}
 pub use Rattle.store_core.specs.Opening.{IsGivenUp, IsNew, IsNotRead, IsReadFrom, OpensCore, OpensNone}
 pub use Rattle.store_core.specs.Releases.{SweepsSpare, copied_in, freed_in}
-pub use Rattle.store_core.specs.Runs.{AreNoGcSteps, ChangesTo, CoreRun, FileEvent, FileRun, FileStep, IsAt, IsNoGcStep, IsRootOf, changes_by, changes_of, events_of, given_to, stored_after, stored_by, stored_with}
+pub use Rattle.store_core.specs.Runs.{AreNoGcSteps, CoreRun, FileEvent, FileRun, FileStep, IsAt, IsNoGcStep, IsRootOf, changes_by, changes_of, events_of, given_to, stored_after, stored_by, stored_with}
 pub use Rattle.store_core.specs.State.{CoreState, Event, IsRunning, IsUp, UnlessStopped}
 pub use Rattle.store_core.specs.declared.stop.Stop.{Stop}
 pub use Rattle.store_machine.specs.ByMap.{FileMachine, ListsThrough, MakesRoom, RunsWith}

@@ -1,12 +1,14 @@
 -- What the steps by which a file is stored make of a core: containers are sealed, and then the name is put, or a step is
 -- refused.
-use Rattle.backup_engine.proofs.Prelude.{◌≡◌, ◌⊎◌, inl, inr, ℕ, suc, ◌≤◌, List, [], ◌∷◌, ◌++◌, Option, Some, None, Result, Ok, Err, refl, sym, ◌∙◌, ap, subst, arith, AllByRecursion, Root, Put, IsLater, IsDurable, PlaceMap, HeaderValue, header_of, Answer, StepValue, Refusal, Memory, DiskWrite, Damaged, Store, IsValidFor, HasFree, free_slots, first_free, with_slot, StoreChange, SealContainer, ChangeName, FlushContainer, FreeContainer, CanChangeName, with_change, Tables, Represents, Stop, CoreStep, Steps, StepsOr, StopsAfter, Effect, Rests, SealsOne, NamesOne, IndexesAll, Makes, KeepsTables, ChangesTo, CoreRun, FileEvent, IsNoGcStep, events_of, CoreState, Event, PutRun, EndsPut, IsPutStep, IsAskedFor, IsNoCommit, IsOk, IsDoneBefore, IsLastPut, seal_by, seals_of}
+use Rattle.backup_engine.proofs.Prelude.{◌≡◌, ◌⊎◌, inl, inr, ℕ, suc, ◌≤◌, List, [], ◌∷◌, ◌++◌, Option, Some, None, Result, Ok, Err, refl, sym, ◌∙◌, ap, subst, arith, AllByRecursion, Root, Put, IsLater, IsDurable, PlaceMap, Answer, StepValue, Refusal, Memory, DiskWrite, Damaged, Store, IsValidFor, HasFree, StoreChange, SealContainer, ChangeName, FlushContainer, FreeContainer, CanChangeName, with_change, Tables, Represents, Stop, CoreStep, Steps, StepsOr, StopsAfter, Effect, Rests, NamesOne, IndexesAll, Makes, next_id, KeepsTables, ChangesTo, CoreRun, FileEvent, IsNoGcStep, events_of, CoreState, Event, PutRun, EndsPut, IsPutStep, IsAskedFor, IsNoCommit, IsOk, IsDoneBefore, IsLastPut, seal_by, seals_of}
+use Rattle.std.proofs.Common.{◌+◌, ◌-◌, length, take}
+use Rattle.std.proofs.lemmas.List.{length-take-le}
 use Rattle.store_core.proofs.KeepingFiles.{chain_on}
 use Rattle.container_meta.specs.Segments.{Contents}
 use Rattle.actor_parts.specs.declared.step.Answer.TheVariants as answers
 use Rattle.actor_parts.specs.StepValue as asked
-use Rattle.store_model.specs.Steps.{changed}
-use Rattle.store_core.specs.Core.{Row}
+use Rattle.store_core.proofs.ManySealed.{room_left}
+use Rattle.store_core.specs.Core.{Row, SealsSome, changed_by, seals_from}
 
 -- ---- the steps but the last one, and the last one
 
@@ -49,7 +51,7 @@ pub last_is : (P : StepValue → Result Answer Refusal → Type 0) →
 last_is P commits (asked.Commit name root) answer last = commits name root answer last
 last_is P commits asked.Begin answer last = absurd last
 last_is P commits (asked.Claim seg) answer last = absurd last
-last_is P commits (asked.Seal filled) answer last = absurd last
+last_is P commits (asked.Seal offered) answer last = absurd last
 last_is P commits asked.Abort answer last = absurd last
 last_is P commits (asked.OpenRead name) answer last = absurd last
 last_is P commits asked.ReadNext answer last = absurd last
@@ -67,7 +69,7 @@ put_seals = last_is (λ step answer. seal_by step answer ≡ []) (λ name root a
 pub refused_seals : (step : StepValue) (refusal : Refusal) → seal_by step (Err refusal) ≡ []
 refused_seals asked.Begin refusal = refl
 refused_seals (asked.Claim seg) refusal = refl
-refused_seals (asked.Seal filled) refusal = refl
+refused_seals (asked.Seal offered) refusal = refl
 refused_seals (asked.Commit name root) refusal = refl
 refused_seals asked.Abort refusal = refl
 refused_seals (asked.OpenRead name) refusal = refl
@@ -165,11 +167,9 @@ seals_on : (first rest : List StoreChange) → AllByRecursion IsSeal first → A
 seals_on [] rest one two = two
 seals_on (change ∷ changes) rest one two = (one.0, seals_on changes rest one.1 two)
 
--- one slot fewer is free
-free_with : (h : HeaderValue) (held : List (Option HeaderValue)) → 1 ≤ free_slots held → free_slots held ≡ suc (free_slots (with_slot (first_free held) h held))
-free_with h [] some = absurd (omega arith)
-free_with h (None ∷ cs) some = refl
-free_with h (Some g ∷ cs) some = free_with h cs some
+seals_only : (id : ℕ) (cs : List Contents) → AllByRecursion IsSeal (seals_from id cs)
+seals_only id [] = tt
+seals_only id (c ∷ cs) = (tt, seals_only (suc id) cs)
 
 same_tables : (s : Store) (old new : CoreState) → KeepsTables old new → Represents s old.known old.tables → Represents s new.known new.tables
 same_tables s old new kept represents =
@@ -196,28 +196,31 @@ module _ (s : Store) (old new : CoreState) (on : IsOn s old) (runs : new.stop �
     };
   }
 
-  seals_one : (filled : Contents) (id : ℕ) → Makes (SealContainer id filled.kind filled.segments) old new → SealedTo (SealContainer id filled.kind filled.segments ∷ []) s new
-  seals_one filled id made =
-      let can = made.can.store_has s on.represents on.valid on.has_free in
+  seals_all : (id : ℕ) (cs : List Contents) → 1 ≤ length cs → Makes (seals_from id cs) old new → SealedTo (seals_from id cs) s new
+  seals_all id cs some made =
+      let after = changed_by (seals_from id cs) s in
+      let chain = made.can.store_has s on.represents on.valid on.has_free in
       record {
-        after = changed (SealContainer id filled.kind filled.segments) s;
-        chain = (can, refl);
-        seals = (tt, tt);
+        after = after;
+        chain = chain;
+        seals = seals_only id cs;
         on = record {
           represents = made.represents.store_has s on.represents on.valid on.has_free;
           valid = made.valid.store_has s on.represents on.valid on.has_free;
-          has_free = omega (arith, can.slot, free_with (header_of id filled.kind filled.segments) s.held (omega (arith, can.slot)));
+          has_free = let room = room_left id cs s after some chain in omega (arith, room);
           told = made.tells on.told.0 on.told.1;
           whole = made.whole.store_has s on.represents on.valid on.has_free on.whole;
           runs = runs;
         };
       }
 
-  by_seal : (filled : Contents) (actor : ℕ) (buf : List ℕ) (answer : Answer) → Row (asked.Seal filled) actor (Ok answer) buf old new → SealsOne filled (Ok answer) old new
-      → SealedTo (seal_by (asked.Seal filled) (Ok answer)) s new
-  by_seal filled actor buf (answers.Sealed id) row effect =
-      seals_one filled id (subst (λ (n : ℕ). Makes (SealContainer n filled.kind filled.segments) old new) (sym row.id_is) effect.made)
-  by_seal filled actor buf answer row effect = absurd row
+  by_seal : (offered : List Contents) (actor : ℕ) (buf : List ℕ) (answer : Answer) → Row (asked.Seal offered) actor (Ok answer) buf old new → SealsSome offered (Ok answer) old new
+      → SealedTo (seal_by (asked.Seal offered) (Ok answer)) s new
+  by_seal offered actor buf (answers.Sealed id count) row effect =
+      let next : next_id old ≡ id + 1 - count = omega (arith, row.id_is) in
+      subst (λ (n : ℕ). SealedTo (seals_from n (take count offered)) s new) next
+      (seals_all (next_id old) (take count offered) (omega (arith, length-take-le count offered row.few, row.some)) effect.made)
+  by_seal offered actor buf answer row effect = absurd row
 
   by_step : (name bytes put : List ℕ) (actor : ℕ) (buf : List ℕ) (step : StepValue) (answer : Result Answer Refusal) → IsAskedFor name bytes step put → IsNoCommit step →
       IsOk answer
@@ -225,7 +228,7 @@ module _ (s : Store) (old new : CoreState) (on : IsOn s old) (runs : new.stop �
   by_step name bytes put actor buf step (Err refusal) asks other ok row effect = absurd ok
   by_step name bytes put actor buf asked.Begin (Ok answer) asks other ok row effect = rests (Ok answer) effect
   by_step name bytes put actor buf (asked.Claim seg) (Ok answer) asks other ok row effect = rests (Ok answer) effect
-  by_step name bytes put actor buf (asked.Seal filled) (Ok answer) asks other ok row effect = by_seal filled actor buf answer row effect
+  by_step name bytes put actor buf (asked.Seal offered) (Ok answer) asks other ok row effect = by_seal offered actor buf answer row effect
   by_step name bytes put actor buf (asked.Commit n root) (Ok answer) asks other ok row effect = absurd other
   by_step name bytes put actor buf asked.Abort (Ok answer) asks other ok row effect = absurd asks
   by_step name bytes put actor buf (asked.OpenRead n) (Ok answer) asks other ok row effect = absurd asks
@@ -312,17 +315,17 @@ module _ (s : Store) (old new : CoreState) (on : IsOn s old) where
     whole = subst (IndexesAll s) (sym tables.index_is) on.whole;
   })
 
-  unsealed : (filled : Contents) (actor : ℕ) (buf : List ℕ) (refusal : Refusal) → Row (asked.Seal filled) actor (Err refusal) buf old new → SealsOne filled (Err refusal) old new →
-      AreUnless refusal s new
-  unsealed filled actor buf DiskWrite row effect = tt
-  unsealed filled actor buf (Damaged at why) row effect = absurd (let none : None ≡ Some on.told.0 = sym row.0.2 ∙ on.told.1 in cc)
-  unsealed filled actor buf refusal row effect = kept refusal effect.kept effect.disk.later
+  unsealed : (offered : List Contents) (actor : ℕ) (buf : List ℕ) (refusal : Refusal) → Row (asked.Seal offered) actor (Err refusal) buf old new
+      → SealsSome offered (Err refusal) old new → AreUnless refusal s new
+  unsealed offered actor buf DiskWrite row effect = tt
+  unsealed offered actor buf (Damaged at why) row effect = absurd (let none : None ≡ Some on.told.0 = sym row.0.1.2 ∙ on.told.1 in cc)
+  unsealed offered actor buf refusal row effect = kept refusal effect.kept effect.disk.later
 
   step_refused : (step : StepValue) → IsNoGcStep step → (actor : ℕ) (buf : List ℕ) (refusal : Refusal) → Row step actor (Err refusal) buf old new →
       Effect step (Err refusal) old new → AreUnless refusal s new
   step_refused asked.Begin no_gc actor buf refusal row effect = kept refusal effect.tables effect.disk.only.later
   step_refused (asked.Claim seg) no_gc actor buf refusal row effect = kept refusal effect.tables effect.disk.only.later
-  step_refused (asked.Seal filled) no_gc actor buf refusal row effect = unsealed filled actor buf refusal row effect
+  step_refused (asked.Seal offered) no_gc actor buf refusal row effect = unsealed offered actor buf refusal row effect
   step_refused (asked.Commit n root) no_gc actor buf refusal row effect = kept refusal effect.kept effect.disk.later
   step_refused asked.Abort no_gc actor buf refusal row effect = kept refusal effect.tables effect.disk.only.later
   step_refused (asked.OpenRead n) no_gc actor buf refusal row effect = kept refusal effect.tables effect.disk.only.later
@@ -339,7 +342,7 @@ module _ (s : Store) (old new : CoreState) (on : IsOn s old) where
       let made = effect.made in
       record {
         root = root;
-        can = (made.can.store_has s on.represents on.valid on.has_free).0;
+        can = (made.can.store_has s on.represents on.valid on.has_free).0.0;
         are = record {
           represents = made.represents.store_has s on.represents on.valid on.has_free;
           valid = made.valid.store_has s on.represents on.valid on.has_free;
@@ -356,7 +359,7 @@ module _ (s : Store) (old new : CoreState) (on : IsOn s old) where
   put_last name bytes put (asked.Commit n root) (Ok answer) asks last effect = subst (λ (x : List ℕ). IsPutAt x s new) asks.0 (was_put n root answer effect)
   put_last name bytes put asked.Begin answer asks last effect = absurd last
   put_last name bytes put (asked.Claim seg) answer asks last effect = absurd last
-  put_last name bytes put (asked.Seal filled) answer asks last effect = absurd last
+  put_last name bytes put (asked.Seal offered) answer asks last effect = absurd last
   put_last name bytes put asked.Abort answer asks last effect = absurd last
   put_last name bytes put (asked.OpenRead n) answer asks last effect = absurd last
   put_last name bytes put asked.ReadNext answer asks last effect = absurd last
@@ -372,7 +375,7 @@ asked_no_gc : (name given : List ℕ) (step : StepValue) (put : List ℕ) → Is
 asked_no_gc name given asked.GcStep put is = absurd is
 asked_no_gc name given asked.Begin put is = tt
 asked_no_gc name given (asked.Claim seg) put is = tt
-asked_no_gc name given (asked.Seal filled) put is = tt
+asked_no_gc name given (asked.Seal offered) put is = tt
 asked_no_gc name given (asked.Commit n root) put is = tt
 asked_no_gc name given step put is = absurd is
 

@@ -1,13 +1,18 @@
 -- What `ingest` never changes, whatever the disk holds.
-use Rattle.backup_engine.proofs.Prelude.{◌≡◌, ◌⊎◌, inl, inr, ℕ, ◌≤◌, List, [], ◌∷◌, length, Option, Some, Result, Ok, Err, sym, ◌∙◌, ap, subst, arith, AllByRecursion, KnownWith, RESERVE, Root, Put, DiskView, OnlyReads, CrashLeaves, SteppedFrom, StandsFor, reads_here, leaves_on, leaves_weaker, stands_weaker, Answer, StepValue, Refusal, DiskRead, DiskWrite, Refused, Store, Encodes, free_slots, first_free, HasJournal, with_change, root_of, some_free, has_journal, has_kept, ChangesBytes, StandsStill, ChangesSlotAlone, SameButSlotOf, CoreStep, Effect, SealsOne, NamesOne, CoreRun, FileEvent, events_of, CoreState, MayChange, IsAskedFor, IsNoCommit, IsOk, IsLastPut, seal_by}
+use Rattle.backup_engine.proofs.Prelude.{◌≡◌, ◌⊎◌, inl, inr, ℕ, ◌≤◌, ◌+◌, List, [], ◌∷◌, length, Option, Some, Result, Ok, Err, sym, ◌∙◌, ap, subst, arith, AllByRecursion, KnownWith, RESERVE, Root, Put, DiskView, OnlyReads, CrashLeaves, SteppedFrom, StandsFor, reads_here, leaves_on, leaves_weaker, stands_weaker, Answer, StepValue, Refusal, DiskRead, DiskWrite, Refused, Store, Encodes, free_slots, HasJournal, with_change, root_of, has_journal, has_kept, ChangesBytes, StandsStill, CoreStep, Effect, NamesOne, CoreRun, FileEvent, events_of, CoreState, MayChange, IsAskedFor, IsNoCommit, IsOk, IsLastPut, seal_by}
+use Rattle.std.proofs.Common.{take}
 use Rattle.dd_disk.proofs.Later.{reads_leave}
 use Rattle.container_meta.specs.Segments.{Contents}
 use Rattle.actor_parts.specs.StepValue as asked
 use Rattle.reply_text.specs.declared.ending.Ending.{Ending}
+use Rattle.actor_parts.specs.Offers.{sealed_of}
+use Rattle.ingest_steps.specs.Offering.{offer_in}
+use Rattle.ingest_steps.specs.SealingAll.{ChangesSlotsAlone, SameButSlotsOf, slots_of}
 use Rattle.store_state.specs.Settled.{IsSettled}
 use Rattle.store_core.proofs.Stepping.{effect_later}
+use Rattle.store_core.specs.Core.{SealsSome}
 use Rattle.backup_engine.specs.Frame.{KeepsOpen}
-use Rattle.backup_engine.proofs.KeptBytes.{IsFreeIn, KeepsSlots, free_sealed, first_is_shut, slots_settled, slots_sealed, journal_later, still_first, change_first, open_kept, open_next}
+use Rattle.backup_engine.proofs.KeptBytes.{IsFreeIn, KeepsSlots, free_sealed, free_are_shut, slots_settled, slots_sealed, journal_later, still_first, change_first, open_kept, open_next}
 use Rattle.backup_engine.proofs.PutChanges.{IsOn, IsPutLast, IsStepRefused, IsWayStep, last_is, way_step, running_step}
 
 -- ---- one step
@@ -52,21 +57,23 @@ module _ (first : Store) (base : List ℕ) (t : Store) (old new : CoreState) (on
   tables_slots : old.tables.slots ≡ slots
   tables_slots = on.represents.slots_are ∙ held.free.slots_are
 
-  -- a container was written, or in part
-  by_seal : (filled : Contents) (answer : Result Answer Refusal) → SealsOne filled answer old new → Leaves Slots old.disk new.disk
-  by_seal filled answer effect =
-      let frame : ChangesSlotAlone slots (first_free t.held) old.disk new.disk =
-      subst (λ (n : ℕ). ChangesSlotAlone n (first_free t.held) old.disk new.disk) tables_slots (effect.moves.frame.store_has t on.represents on.valid on.has_free) in
-      let shut = first_is_shut first base t held.free (some_free t.held on.has_free) in
+  -- containers were written, or in part
+  by_seal : (offered : List Contents) (answer : Result Answer Refusal) → SealsSome offered answer old new → Leaves Slots old.disk new.disk
+  by_seal offered answer effect =
+      let taken = slots_of (offer_in old.tables offered t) in
+      let frame : ChangesSlotsAlone slots taken old.disk new.disk =
+      subst (λ (n : ℕ). ChangesSlotsAlone n taken old.disk new.disk) tables_slots (effect.moves.frame.store_has t on.represents on.valid on.has_free) in
+      let shut = free_are_shut first base t held.free (old.tables.held.last_id + 1)
+      (take (sealed_of (length offered) (free_slots t.held) old.tables.held.last_id) offered) in
       let left = frame.settled held.settled given known in
-      let each = λ (c : List ℕ) (same : SameButSlotOf slots (first_free t.held) given c). slots_sealed slots base given keeps (first_free t.held) c shut same in
+      let each = λ (c : List ℕ) (same : SameButSlotsOf slots taken given c). slots_sealed slots base given keeps taken c shut same in
       record {
         content = (left.0.0, left.0.1, each left.0.0 left.0.2);
-        images = leaves_weaker (SameButSlotOf slots (first_free t.held) given) Slots old.disk new.disk each left.1;
+        images = leaves_weaker (SameButSlotsOf slots taken given) Slots old.disk new.disk each left.1;
       }
 
-  seal_settled : (filled : Contents) (answer : Answer) → SealsOne filled (Ok answer) old new → IsSettled slots new.disk
-  seal_settled filled answer effect =
+  seal_settled : (offered : List Contents) (answer : Answer) → SealsSome offered (Ok answer) old new → IsSettled slots new.disk
+  seal_settled offered answer effect =
       subst (λ (n : ℕ). IsSettled n new.disk) tables_slots (effect.disk.left (subst (λ (n : ℕ). IsSettled n old.disk) (sym tables_slots) held.settled))
 
   -- the journal of an image on the way
@@ -149,8 +156,8 @@ module _ (first : Store) (base : List ℕ) where
     step_held name bytes put step (Err refusal) asks other ok effect = absurd ok
     step_held name bytes put asked.Begin (Ok answer) asks other ok effect = reads_held effect.disk.only
     step_held name bytes put (asked.Claim seg) (Ok answer) asks other ok effect = reads_held effect.disk.only
-    step_held name bytes put (asked.Seal filled) (Ok answer) asks other ok effect =
-        (by_seal first base t old new on held filled (Ok answer) effect, seal_settled first base t old new on held filled answer effect)
+    step_held name bytes put (asked.Seal offered) (Ok answer) asks other ok effect =
+        (by_seal first base t old new on held offered (Ok answer) effect, seal_settled first base t old new on held offered answer effect)
     step_held name bytes put (asked.Commit n root) (Ok answer) asks other ok effect = absurd other
     step_held name bytes put asked.Abort (Ok answer) asks other ok effect = absurd asks
     step_held name bytes put (asked.OpenRead n) (Ok answer) asks other ok effect = absurd asks
@@ -237,7 +244,7 @@ module _ (first : Store) (base : List ℕ) (right : Encodes base first) (reserve
     put_open ending may bytes put (asked.Commit n root) (Ok answer) asks last effect = put_change ending may n root (Ok answer) asks.0 effect
     put_open ending may bytes put asked.Begin answer asks last effect = absurd last
     put_open ending may bytes put (asked.Claim seg) answer asks last effect = absurd last
-    put_open ending may bytes put (asked.Seal filled) answer asks last effect = absurd last
+    put_open ending may bytes put (asked.Seal offered) answer asks last effect = absurd last
     put_open ending may bytes put asked.Abort answer asks last effect = absurd last
     put_open ending may bytes put (asked.OpenRead n) answer asks last effect = absurd last
     put_open ending may bytes put asked.ReadNext answer asks last effect = absurd last
@@ -258,8 +265,8 @@ module _ (first : Store) (base : List ℕ) (right : Encodes base first) (reserve
         EndsSo (Some (Refused refusal))
     refused_open bytes put refusal asked.Begin asks effect = reads_open (Some (Refused refusal)) effect.disk.only
     refused_open bytes put refusal (asked.Claim seg) asks effect = reads_open (Some (Refused refusal)) effect.disk.only
-    refused_open bytes put refusal (asked.Seal filled) asks effect =
-        here_open (Some (Refused refusal)) (by_seal first base t old new framed.on framed.held filled (Err refusal) effect)
+    refused_open bytes put refusal (asked.Seal offered) asks effect =
+        here_open (Some (Refused refusal)) (by_seal first base t old new framed.on framed.held offered (Err refusal) effect)
     refused_open bytes put refusal (asked.Commit n root) asks effect = uncommitted n root refusal asks.0 effect
     refused_open bytes put refusal asked.Abort asks effect = absurd asks
     refused_open bytes put refusal (asked.OpenRead n) asks effect = absurd asks

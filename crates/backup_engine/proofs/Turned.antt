@@ -48,7 +48,7 @@ module _ (C : Type 0) (state : C → CoreState) (laws : SessionLaws) (actor : �
       let asks = subst (λ (a : ℕ). Asks a (due_in before) before (Ok answer) (state old) (state new)) first turn.asks in
       let has = subst (λ (u : SessionState). HasHistory u (answered answer before here.history)) turn.told (turn.history here.history here.has) in
       subst (λ (u : SessionState). IsFed C state given u start new) (sym turn.told)
-      (asked_on C state given before start old new here laws.turns laws.opens laws.waits (due_in before) answer refl asks turn.running has)
+      (asked_on C state given before start old new here laws.turns (due_in before) answer refl asks turn.running has)
 
   pub fed_turns : (answers : List Answer) (s t : SessionState) (old new : C) → TurnRun C state actor answers s t old new → IsFed C state given s start old →
       IsFed C state given t start new
@@ -67,7 +67,7 @@ module _ (C : Type 0) (state : C → CoreState) (laws : SessionLaws) (actor : �
   refused_turn refusal s t old new refused fed name file may =
       let here = fed_paused s t old refused.0 fed in
       let asks = subst (λ (a : ℕ). Asks a (due_in t) t (Err refusal) (state old) (state new)) first refused.2 in
-      asked_refused C state given t start old new here laws.turns laws.opens laws.claims laws.seals refused.1 (due_in t) refusal refl asks name file
+      asked_refused C state given t start old new here laws.turns laws.claims laws.seals refused.1 (due_in t) refusal refl asks name file
       (may_be_still given t s file (sym refused.0.keeps.ended) may)
 
   pub stopped_turns : (refusal : Refusal) (s t : SessionState) (old new : C) → TurnsStopped C state actor refusal s t old new → IsFed C state given s start old →

@@ -1,29 +1,30 @@
 -- A step that is due is made, and the session is told what it answered.
-use Rattle.backup_engine.proofs.Prelude.{both_so, ◌≡◌, ◌≢◌, inl, inr, ◌∙◌, ℕ, List, [], ◌∷◌, ◌++◌, map, Option, Some, None, Ok, Err, refl, sym, ap, subst, AllByRecursion, Kind, Leaf, Tree, PlaceMap, KindSegment, Segment, segment_key, Answer, KeyPin, children_by, children_of, IsStep, Refusal, Data, Node, HasPieceOf, IsPieceOf, key_of_seg, CoreStep, kept_of, CoreState, IsRunning, Due, Claim, Seal, due_in, item_kind, open_of, HasHistory, answered, item_if, waiting, item_of, IsItem, SessionState, turn_node, told_by, Asks, all_of, IsFed, MayBe, Stops, opens_of, AreNew, IsOneOf, item_is, one_item}
-use Rattle.std.proofs.Common.{append-nil}
+use Rattle.backup_engine.proofs.Prelude.{both_so, ◌≡◌, ◌≢◌, inl, inr, ◌∙◌, ℕ, List, [], ◌∷◌, ◌++◌, map, Option, Some, None, Ok, Err, refl, sym, ap, subst, AllByRecursion, Kind, Leaf, Tree, PlaceMap, KindSegment, Segment, segment_key, Answer, KeyPin, children_by, children_of, IsStep, Refusal, Data, Node, HasPieceOf, IsPieceOf, key_of_seg, CoreStep, kept_of, CoreState, IsRunning, Due, Claim, Seal, due_in, item_kind, HasHistory, answered, item_if, item_of, IsItem, SessionState, turn_node, told_by, Asks, all_of, all_then, one_of, IsFed, MayBe, Stops, opens_of, AreNew, IsOneOf, item_is, one_item}
+use Rattle.std.proofs.Common.{append-nil, take}
+use Rattle.container_meta.specs.Segments.{Contents}
 use Rattle.std.specs.FinMap as finite
 use Rattle.merkle_file.specs.Node as node
 use Rattle.actor_parts.specs.declared.step.Answer.TheVariants as answers
 use Rattle.actor_parts.specs.Segments.{node_segment}
 use Rattle.actor_parts.specs.StepValue as asked
 use Rattle.ingest_session.specs.declared.due.Due.TheVariants.{Nothing}
-use Rattle.ingest_session.specs.Facts.{ChildrenComeFirst, IsKeptChild, MayFollow, OpenNodesHaveChildren, OpensArePieces, TurnsArePieces, WaitsForAnother}
+use Rattle.ingest_session.specs.Due.{offered_in, segments_of_all}
+use Rattle.ingest_session.specs.Facts.{ChildrenComeFirst, IsKeptChild, MayFollow, OpenNodesHaveChildren, TurnsArePieces}
 use Rattle.ingest_session.specs.History.{turn_of}
 use Rattle.ingest_session.specs.Moving.{IsOffered}
 use Rattle.ingest_session.specs.Told.{IsSettled}
 use Rattle.ingest_session.proofs.Waiting.{claimed_turn}
+use Rattle.ingest_session.proofs.Offered.{offered_apart, offered_are_pieces, offered_unsealed}
+use Rattle.ingest_session.proofs.SealsSome.{offer_kinds}
 use Rattle.ingest_session.proofs.Waiting.{session_of}
 use Rattle.ingest_session.proofs.OpenOn.{left_differs, opens_absent}
 use Rattle.backup_engine.proofs.Feds.{fed_absent, fed_held, fed_sealed}
 use Rattle.backup_engine.proofs.KeptPieces as pieces
 use Rattle.backup_engine.proofs.WayClaims.{held_or_absent, way_absent, way_held}
 use Rattle.backup_engine.proofs.WayRefusals.{way_unclaimed, way_unsealed}
-use Rattle.backup_engine.proofs.WaySeals.{only_sealed, way_sealed}
-
--- the first of two lists of new segments
-pub all_first : {A : Type 0} (P : A → Type 0) (xs ys : List A) → AllByRecursion P (xs ++ ys) → AllByRecursion P xs
-all_first P [] ys all = tt
-all_first P (x ∷ xs) ys all = (all.0, all_first P xs ys all.1)
+use Rattle.store_machine.proofs.OfOneKind.{AreOf, all_taken, apart_of, apart_taken, each_of}
+use Rattle.store_machine.proofs.Sealings.{AreApart}
+use Rattle.backup_engine.proofs.WaySeals.{AreAllNew, ArePieces, only_sealed, sealed_row, way_sealed}
 
 module _ (C : Type 0) (state : C → CoreState) (given : List ℕ) (s : SessionState) (start old new : C) (fed : IsFed C state given s start old) where
   abbrev files : List ℕ → Type 0
@@ -105,74 +106,92 @@ module _ (C : Type 0) (state : C → CoreState) (given : List ℕ) (s : SessionS
 
   -- ---- a seal
 
-  module _ (opens : OpensArePieces) (mine : Kind) (due : due_in s ≡ Seal mine) (right : IsStep (asked.Seal (open_of s mine))) (kind_is : (open_of s mine).kind ≡ mine)
-      (buf : List ℕ) where
-    open_pieces : (file : List ℕ) → files file → AllByRecursion (λ x. HasPieceOf file (record { kind = (open_of s mine).kind; segment = x })) (open_of s mine).segments
-    open_pieces =
-        subst (λ (k : Kind). (file : List ℕ) → files file → AllByRecursion (λ x. HasPieceOf file (record { kind = k; segment = x })) (open_of s mine).segments) (sym kind_is)
-        (by_more (λ file. AllByRecursion (λ x. HasPieceOf file (record { kind = mine; segment = x })) (open_of s mine).segments)
-        (λ more may. opens s fed.history more fed.has may mine))
+  module _ (mine : Kind) (due : due_in s ≡ Seal mine) (right : IsStep (asked.Seal (offered_in s mine))) (buf : List ℕ) where
+    abbrev offered : List Contents
+    offered = offered_in s mine
 
-    open_new : AreNew fed.way.places (open_of s mine).kind (open_of s mine).segments
-    open_new =
-        subst (λ (k : Kind). AreNew fed.way.places k (open_of s mine).segments) (sym kind_is)
-        (all_first (λ x. finite.get fed.way.places (segment_key mine x) ≡ None) (open_of s mine).segments (waiting mine s) (fed.way.fresh mine))
+    kinds : AreOf mine offered
+    kinds = offer_kinds s mine (session_of s fed.history fed.has)
 
-    pub seal_made : WaitsForAnother → (id : ℕ) → CoreStep (state old) (record { actor = 0; step = asked.Seal (open_of s mine); answer = Ok (answers.Sealed id); buf = buf })
-        (state new) → IsRunning (state new)
-        → HasHistory (told_by (answers.Sealed id) s) (answered (answers.Sealed id) s fed.history) → IsFed C state given (told_by (answers.Sealed id) s) start new
-    seal_made waits id step running has =
-        let way = way_sealed C state files (opens_of s) start old new fed.way (open_of s mine) buf right open_pieces open_new id step (opens_of (told_by (answers.Sealed id) s))
-        (subst (λ (k : Kind). (kind : Kind) →
-        AllByRecursion (λ x. IsOneOf x (opens_of s kind) × AllByRecursion (λ y. segment_key kind x ≢ segment_key k y) (open_of s mine).segments)
-        (opens_of (told_by (answers.Sealed id) s) kind)) (sym kind_is)
-        (λ kind. left_differs s id mine due (session_of s fed.history fed.has) (waits s fed.history fed.has) kind))
+    are_pieces : (file : List ℕ) → files file → ArePieces file offered
+    are_pieces = by_more (λ file. ArePieces file offered)
+        (λ more may. each_of (λ k x. HasPieceOf (fed.history.given ++ more) (pieces.of_kind k x)) mine offered kinds
+        (offered_are_pieces s fed.history more fed.has may mine))
+
+    are_new : AreAllNew fed.way.places offered
+    are_new =
+        each_of (λ k x. finite.get fed.way.places (segment_key k x) ≡ None) mine offered kinds
+        (all_of (λ x. finite.get fed.way.places (segment_key mine x) ≡ None) (segments_of_all offered)
+        (λ x is. one_of (λ y. finite.get fed.way.places (segment_key mine y) ≡ None) (opens_of s mine) x (fed.way.fresh mine) (offered_unsealed s mine x is)))
+
+    apart : AreApart offered
+    apart = apart_of mine offered kinds (offered_apart s fed.history fed.has mine)
+
+    pub seal_made : (id count : ℕ) (step : CoreStep (state old) (record { actor = 0; step = asked.Seal offered; answer = Ok (answers.Sealed id count); buf = buf }) (state new))
+        → IsRunning (state new)
+        → HasHistory (told_by (answers.Sealed id count) s) (answered (answers.Sealed id count) s fed.history)
+        → IsFed C state given (told_by (answers.Sealed id count) s) start new
+    seal_made id count step running has =
+        let row = sealed_row C state files (opens_of s) start old new fed.way offered buf right are_pieces id count step in
+        let sealed : List Contents = take count offered in
+        let way = way_sealed C state files (opens_of s) start old new fed.way offered buf right are_pieces id count step
+        (all_taken (λ c. AreNew fed.way.places c.kind c.segments) count offered are_new) (apart_taken count offered apart) (opens_of (told_by (answers.Sealed id count) s))
+        (λ kind. all_then
+        (λ x. IsOneOf x (opens_of s kind) × AllByRecursion (λ y. segment_key kind x ≢ segment_key mine y) (segments_of_all sealed))
+        (λ x. IsOneOf x (opens_of s kind) × AllByRecursion (λ c. AllByRecursion (λ y. segment_key c.kind y ≢ segment_key kind x) c.segments) sealed)
+        (opens_of (told_by (answers.Sealed id count) s) kind)
+        (λ x both. (
+          both.0,
+          each_of (λ k y. segment_key k y ≢ segment_key kind x) mine sealed (all_taken (λ c. c.kind ≡ mine) count offered kinds)
+              (all_then (λ y. segment_key kind x ≢ segment_key mine y) (λ y. segment_key mine y ≢ segment_key kind x) (segments_of_all sealed)
+              (λ y differ same. differ (sym same)) both.1),
+        ))
+        (left_differs s fed.history fed.has id count mine due row.some row.few kind))
         running in
-        fed_sealed C state given s start old new fed id mine due
-        (way.0, way.1 ∙ ap (λ (k : Kind). kept_of fed.way.steps ++ map (λ x. record { kind = k; segment = x }) (open_of s mine).segments) kind_is) has
+        fed_sealed C state given s start old new fed id count mine due way has
 
-    open_children : OpenNodesHaveChildren → (k : Kind) → k ≡ mine
-        → AllByRecursion (λ x. AllByRecursion (pieces.IsKeptChild (kept_of fed.way.steps)) (children_by (open_of s mine).kind x)) (open_of s mine).segments
-    open_children nodes Leaf is =
-        subst (λ (m : Kind). AllByRecursion (λ x. AllByRecursion (pieces.IsKeptChild (kept_of fed.way.steps)) (children_by m x)) (open_of s mine).segments) (is ∙ sym kind_is)
-        (none (open_of s mine).segments)
+    -- data has no children, and those of nodes are kept
+    offered_children : OpenNodesHaveChildren → (k : Kind)
+        → AllByRecursion (λ x. AllByRecursion (pieces.IsKeptChild (kept_of fed.way.steps)) (children_by k x)) (segments_of_all (offered_in s k))
+    offered_children nodes Leaf = none (segments_of_all (offered_in s Leaf))
       where
         none : (xs : List Segment) → AllByRecursion (λ x. AllByRecursion (pieces.IsKeptChild (kept_of fed.way.steps)) (children_by Leaf x)) xs
         none [] = tt
         none (x ∷ xs) = (tt, none xs)
-    open_children nodes Tree is =
-        subst (λ (m : Kind). AllByRecursion (λ x. AllByRecursion (pieces.IsKeptChild (kept_of fed.way.steps)) (children_by m x)) (open_of s mine).segments) (is ∙ sym kind_is)
-        (subst (λ (m : Kind). AllByRecursion (λ x. AllByRecursion (pieces.IsKeptChild (kept_of fed.way.steps)) (children_by Tree x)) (open_of s m).segments) is
-        (all_children_kept Tree s.nodes.segments (nodes s fed.history fed.has)))
+    offered_children nodes Tree =
+        subst (AllByRecursion (λ x. AllByRecursion (pieces.IsKeptChild (kept_of fed.way.steps)) (children_by Tree x))) (sym (append-nil s.nodes.segments))
+        (all_children_kept Tree s.nodes.segments (nodes s fed.history fed.has))
 
     pub seal_refused : OpenNodesHaveChildren → (name file : List ℕ) → files file → (refusal : Refusal)
-        → CoreStep (state old) (record { actor = 0; step = asked.Seal (open_of s mine); answer = Err refusal; buf = buf }) (state new) → Stops C state name file refusal start new
+        → CoreStep (state old) (record { actor = 0; step = asked.Seal offered; answer = Err refusal; buf = buf }) (state new) → Stops C state name file refusal start new
     seal_refused nodes name file is refusal step =
-        inl (way_unsealed C state files (opens_of s) start old new fed.way buf name file is (open_of s mine) right open_pieces open_new (open_children nodes mine refl) refusal
+        inl (way_unsealed C state files (opens_of s) start old new fed.way buf name file is offered right are_pieces are_new
+        (each_of (λ k x. AllByRecursion (pieces.IsKeptChild (kept_of fed.way.steps)) (children_by k x)) mine offered kinds (offered_children nodes mine)) refusal
         step)
 
 -- ---- either
 
 module _ (C : Type 0) (state : C → CoreState) (given : List ℕ) (s : SessionState) (start old new : C) (fed : IsFed C state given s start old) (turns : TurnsArePieces)
-    (opens : OpensArePieces) where
-  -- the step was made, and the session was told
-  pub asked_on : WaitsForAnother → (due : Due) (answer : Answer) → due_in s ≡ due → Asks 0 due s (Ok answer) (state old) (state new) → IsRunning (state new)
-      → HasHistory (told_by answer s) (answered answer s fed.history) → IsFed C state given (told_by answer s) start new
-  asked_on waits Claim answers.Held is asks running has = claim_held C state given s start old new fed turns is asks.0 asks.2 asks.1 asks.3 running has
-  asked_on waits Claim answers.Absent is asks running has = claim_absent C state given s start old new fed turns is asks.0 asks.2 asks.1 asks.3 running has
-  asked_on waits Claim answer is asks running has =
-      absurd (elim (held_or_absent C state (MayBe given s) (opens_of s) start old new fed.way asks.0 asks.1 answer asks.3) [ inl held ↦ cc | inr absent ↦ cc ])
-  asked_on waits (Seal kind) (answers.Sealed id) is asks running has = seal_made C state given s start old new fed opens kind is asks.1 asks.2 asks.0 waits id asks.3 running has
-  asked_on waits (Seal kind) answer is asks running has =
-      absurd (let sealed = only_sealed C state (MayBe given s) (opens_of s) start old new fed.way (open_of s kind) asks.0 answer asks.3 in cc)
-  asked_on waits Nothing answer is asks running has = absurd asks
+  where
+    -- the step was made, and the session was told
+    pub asked_on : (due : Due) (answer : Answer) → due_in s ≡ due → Asks 0 due s (Ok answer) (state old) (state new) → IsRunning (state new)
+        → HasHistory (told_by answer s) (answered answer s fed.history) → IsFed C state given (told_by answer s) start new
+    asked_on Claim answers.Held is asks running has = claim_held C state given s start old new fed turns is asks.0 asks.2 asks.1 asks.3 running has
+    asked_on Claim answers.Absent is asks running has = claim_absent C state given s start old new fed turns is asks.0 asks.2 asks.1 asks.3 running has
+    asked_on Claim answer is asks running has =
+        absurd (elim (held_or_absent C state (MayBe given s) (opens_of s) start old new fed.way asks.0 asks.1 answer asks.3) [ inl held ↦ cc | inr absent ↦ cc ])
+    asked_on (Seal kind) (answers.Sealed id count) is asks running has =
+        seal_made C state given s start old new fed kind is asks.1 asks.0 id count asks.3 running has
+    asked_on (Seal kind) answer is asks running has =
+        absurd (let sealed = only_sealed C state (MayBe given s) (opens_of s) start old new fed.way (offered_in s kind) asks.0 answer asks.3 in cc)
+    asked_on Nothing answer is asks running has = absurd asks
 
-  -- it was refused
-  pub asked_refused : ChildrenComeFirst → OpenNodesHaveChildren → IsSettled s → (due : Due) (refusal : Refusal) → due_in s ≡ due →
-      Asks 0 due s (Err refusal) (state old) (state new) → (name file : List ℕ) → MayBe given s file
-      → Stops C state name file refusal start new
-  asked_refused children nodes settled Claim refusal is asks name file may = claim_refused C state given s start old new fed turns is asks.0 asks.2 asks.1 children settled name
-      file may refusal asks.3
-  asked_refused children nodes settled (Seal kind) refusal is asks name file may = seal_refused C state given s start old new fed opens kind is asks.1 asks.2 asks.0 nodes name
-      file may refusal asks.3
-  asked_refused children nodes settled Nothing refusal is asks name file may = absurd asks
+    -- it was refused
+    pub asked_refused : ChildrenComeFirst → OpenNodesHaveChildren → IsSettled s → (due : Due) (refusal : Refusal) → due_in s ≡ due →
+        Asks 0 due s (Err refusal) (state old) (state new) → (name file : List ℕ) → MayBe given s file
+        → Stops C state name file refusal start new
+    asked_refused children nodes settled Claim refusal is asks name file may = claim_refused C state given s start old new fed turns is asks.0 asks.2 asks.1 children settled name
+        file may refusal asks.3
+    asked_refused children nodes settled (Seal kind) refusal is asks name file may =
+        seal_refused C state given s start old new fed kind is asks.1 asks.0 nodes name file may refusal asks.3
+    asked_refused children nodes settled Nothing refusal is asks name file may = absurd asks

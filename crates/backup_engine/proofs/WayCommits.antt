@@ -1,5 +1,5 @@
 -- The commit at the end of a way: each piece of the file is held, or why the name isn't given the root.
-use Rattle.backup_engine.proofs.Prelude.{◌≡◌, ◌⊎◌, inl, inr, ◌≤◌, ℕ, false, List, length, Option, Some, None, option_map, Result, Ok, Err, refl, sym, ◌∙◌, ap, subst, arith, IsSome, MOST_FILE, Put, Kind, Place, PlaceMap, KindSegment, Segment, HeaderValue, Answer, PinMap, has_pin, pin_of, NameMap, Refusal, Store, Piece, IsPieceOf, piece_bytes, piece_key, piece_segment, IsPartialIndexOf, newest, ChangeName, root_of, Represents, key_of_seg, CoreStep, KeepsTables, Makes, Steps, kept_of, FileEvent, CoreState, one_of, room_in, Ingest, HasNoRoomForName, HasTwins, LacksNumbers, Way, length_in, HoldsPieces, IsOneOf, IsPutRefusal, IsPutStep, PutRun}
+use Rattle.backup_engine.proofs.Prelude.{[], ◌∷◌, ◌≡◌, ◌⊎◌, inl, inr, ◌≤◌, ℕ, false, List, length, Option, Some, None, option_map, Result, Ok, Err, refl, sym, ◌∙◌, ap, subst, arith, IsSome, MOST_FILE, Put, Kind, Place, PlaceMap, KindSegment, Segment, HeaderValue, Answer, PinMap, has_pin, pin_of, NameMap, Refusal, Store, Piece, IsPieceOf, piece_bytes, piece_key, piece_segment, IsPartialIndexOf, newest, ChangeName, root_of, Represents, key_of_seg, CoreStep, KeepsTables, Makes, Steps, kept_of, FileEvent, CoreState, one_of, room_in, Ingest, HasNoRoomForName, HasTwins, LacksNumbers, Way, length_in, HoldsPieces, IsOneOf, IsPutRefusal, IsPutStep, PutRun}
 use Rattle.std.specs.Prelude.{is_some}
 use Rattle.std.specs.FinMap as finite
 use Rattle.disk_format.specs.declared.numbers.TheConstants.{MOST_NAMES}
@@ -77,7 +77,7 @@ module _ (C : Type 0) (state : C → CoreState) (files : List ℕ → Type 0) (o
       ∙ ap (λ (n : ℕ). Some n) (sym piece.3)
 
   -- a name that is put leaves the index
-  index_put : Makes (ChangeName name (Put (root_of file))) (state old) (state new) → (store : Store) → Represents store (state new).known (state new).tables →
+  index_put : Makes (ChangeName name (Put (root_of file)) ∷ []) (state old) (state new) → (store : Store) → Represents store (state new).known (state new).tables →
       IsPartialIndexOf store.held w.places
   index_put made store represents key place found =
       let runs = w.indexed in

@@ -56,7 +56,7 @@ use Rattle.recovery.specs.Formatting.{IsFormatRefusal}
 use Rattle.read_steps.specs.Opening.{HasRoot, top_of}
 use Rattle.read_steps.specs.Walking.{GivesAll, IsNextRefusal}
 use Rattle.store_core.specs.Releases.{copied_in, freed_in}
-use Rattle.store_core.specs.Runs.{ChangesTo}
+use Rattle.store_core.specs.Core.{ChangesTo}
 use Rattle.store_machine.specs.CollectsByNeed.{FreesUpTo, written_in}
 use Rattle.store_machine.specs.Storing.{AddsOnce}
 use Rattle.backup_engine.specs.Collected.{IsOfCollection, collected_line}

@@ -14,9 +14,9 @@ use Rattle.store_model.specs.Trees.{root_of}
 use Rattle.store_core.specs.Keeping.{kept_of}
 use Rattle.store_core.specs.State.{CoreState}
 use Rattle.ingest_session.specs.declared.due.Due.TheVariants.{Nothing}
-use Rattle.ingest_session.specs.Due.{due_in, open_of}
-use Rattle.ingest_session.specs.Facts.{BytesAreCounted, ChildrenComeFirst, IsKept, MayFollow, OpenNodesHaveChildren, OpensArePieces, TurnsArePieces, WaitsForAnother}
-use Rattle.ingest_session.specs.History.{History, HasHistory, waiting}
+use Rattle.ingest_session.specs.Due.{due_in}
+use Rattle.ingest_session.specs.Facts.{BytesAreCounted, ChildrenComeFirst, IsKept, MayFollow, OpenNodesHaveChildren, TurnsArePieces}
+use Rattle.ingest_session.specs.History.{History, HasHistory, unsealed}
 use Rattle.ingest_session.specs.State.{SessionState}
 use Rattle.backup_engine.specs.Putting.{Way}
 use Rattle.backup_engine.specs.Running.{PutRun, HoldsPieces, IsOneOf, IsPutRefusal}
@@ -26,8 +26,6 @@ use Rattle.session_turns.specs.Turns.{SessionMoment}
 -- what is so of every session: what feeding one rests on
 pub record SessionLaws : Type 0 where
   pub turns : TurnsArePieces
-  pub opens : OpensArePieces
-  pub waits : WaitsForAnother
   pub claims : ChildrenComeFirst
   pub seals : OpenNodesHaveChildren
   pub counts : BytesAreCounted
@@ -40,7 +38,7 @@ MayBe given s file = (more : List ℕ) × MayFollow more s × (file ≡ given ++
 
 -- what is still to be sealed of a kind
 abbrev pub opens_of : SessionState → Kind → List Segment
-opens_of s kind = (open_of s kind).segments ++ waiting kind s
+opens_of s kind = unsealed kind s
 
 -- A session was given these bytes, and the steps that it asked for were made: what it was told is kept is what they kept.
 pub record IsFed (C : Type 0) (state : C → CoreState) (given : List ℕ) (s : SessionState) (old new : C) : Type 0 where

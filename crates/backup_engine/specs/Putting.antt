@@ -13,9 +13,9 @@ use Rattle.store_model.specs.Image.{Store, IsValidFor}
 use Rattle.store_model.specs.Slots.{HasFree, last_id}
 use Rattle.store_state.specs.Tables.{Represents, Runs, OfEach}
 use Rattle.ingest_steps.specs.Claiming.{key_of_seg}
-use Rattle.store_core.specs.Core.{IndexesAll, OfEachIndexed}
+use Rattle.store_core.specs.Core.{ChangesTo, IndexesAll, OfEachIndexed}
 use Rattle.store_core.specs.Keeping.{kept_of}
-use Rattle.store_core.specs.Runs.{ChangesTo, CoreRun, FileEvent, events_of}
+use Rattle.store_core.specs.Runs.{CoreRun, FileEvent, events_of}
 use Rattle.store_core.specs.State.{CoreState, IsUp}
 use Rattle.store_machine.specs.Storing.{AddsOnce}
 use Rattle.backup_engine.specs.Running.{IsDoneBefore, IsOneOf, IsPutStep, seals_of}

@@ -1,5 +1,5 @@
 -- The steps of a core that a command makes, and what they answered (docs/MODEL.md, 'Commands').
-use Rattle.std.specs.Prelude.{◌≡◌, ◌⊎◌, ℕ, ◌≤◌, List, [], ◌∷◌, ◌++◌, length, replicate, slice_get, Some, None, Result, Ok, Err}
+use Rattle.std.specs.Prelude.{◌≡◌, ◌⊎◌, ℕ, ◌≤◌, ◌+◌, ◌-◌, take, List, [], ◌∷◌, ◌++◌, length, replicate, slice_get, Some, None, Result, Ok, Err}
 use Rattle.std.specs.List.{AllByRecursion, concat}
 use Rattle.base_model.specs.Fault.{Rose}
 use Rattle.base_model.specs.Known.{Appended}
@@ -20,10 +20,10 @@ use Rattle.reply_text.specs.declared.ending.Ending.{Ending}
 use Rattle.reply_text.specs.declared.ending.Ending.TheVariants as endings
 use Rattle.store_model.specs.Pieces.{Piece, HasPieceOf, IsPieceOf, piece_segment}
 use Rattle.store_model.specs.Slots.{last_id}
-use Rattle.store_model.specs.Steps.{StoreChange, SealContainer}
+use Rattle.store_model.specs.Steps.{StoreChange}
 use Rattle.store_model.specs.Trees.{root_of}
 use Rattle.store_state.specs.Tables.{Runs, OfEach}
-use Rattle.store_core.specs.Core.{OfEachIndexed, CoreStep}
+use Rattle.store_core.specs.Core.{OfEachIndexed, CoreStep, seals_from}
 use Rattle.store_core.specs.Keeping.{kept_by}
 use Rattle.store_core.specs.Runs.{CoreRun, FileEvent, events_of, opens, given_to}
 use Rattle.store_core.specs.State.{CoreState, Event, IsUp}
@@ -49,8 +49,8 @@ pub record IsFresh (c : CoreState) : Type 0 where
 abbrev pub IsAskedFor : List ℕ → List ℕ → StepValue → List ℕ → Type 0
 IsAskedFor name bytes asked.Begin put = Unit {0}
 IsAskedFor name bytes (asked.Claim seg) put = HasPieceOf bytes seg
-IsAskedFor name bytes (asked.Seal filled) put =
-    AllByRecursion (λ s. HasPieceOf bytes (record { kind = filled.kind; segment = s })) filled.segments
+IsAskedFor name bytes (asked.Seal offered) put =
+    AllByRecursion (λ c. AllByRecursion (λ s. HasPieceOf bytes (record { kind = c.kind; segment = s })) c.segments) offered
 IsAskedFor name bytes (asked.Commit n root) put = (n ≡ name) × (root ≡ root_of bytes) × (put ≡ bytes) × (length bytes ≤ MOST_FILE)
 IsAskedFor name bytes step put = ⊥
 
@@ -100,9 +100,9 @@ EndsPut (f ∷ []) (Ok u) = IsLastPut f.event.step f.event.answer
 EndsPut (f ∷ []) (Err refusal) = (f.event.answer ≡ Err refusal) ⊎ (IsDoneBefore f.event × (refusal ≡ Memory))
 EndsPut (f ∷ g ∷ fs) result = IsDoneBefore f.event × EndsPut (g ∷ fs) result
 
--- the containers that were added: each seal that was done
+-- the containers that were added: the first of those that were offered, of each seal that was done
 abbrev pub seal_by : StepValue → Result Answer Refusal → List StoreChange
-seal_by (asked.Seal filled) (Ok (answers.Sealed id)) = SealContainer id filled.kind filled.segments ∷ []
+seal_by (asked.Seal offered) (Ok (answers.Sealed id count)) = seals_from (id + 1 - count) (take count offered)
 seal_by step answer = []
 
 abbrev pub seals_of : List FileEvent → List StoreChange

@@ -16,9 +16,7 @@ use crate::putting::{commit, first};
 use crate::reply::send;
 use actor_parts::{SegBuf, Step};
 use dd_io::{Sink, Source};
-use ingest_session::{
-    Due, Session, bytes_are_counted, children_come_first, seals_were_absent, steps_have_pieces,
-};
+use ingest_session::{Due, Session, bytes_are_counted, children_come_first, steps_have_pieces};
 use reply_text::{Ending, stored_line};
 use session_turns::{MOST_PIECE, feed, make_turns};
 use std::alloc::Global;
@@ -30,7 +28,6 @@ fn sessions_have_laws()
 {
     steps_have_pieces();
     children_come_first();
-    seals_were_absent();
     bytes_are_counted();
 }
 

@@ -1,5 +1,6 @@
 -- Where no two different nodes on the way have one digest, nothing that is given has twins, and no copy that is held clashes with it.
-use Rattle.script_runner.proofs.Prelude.{◌≡◌, inl, inr, ◌∙◌, ℕ, Bool, List, [], ◌∷◌, ◌++◌, Option, Some, None, refl, sym, ap, subst, arith, length, AllByRecursion, byte_at, Kind, Leaf, Tree, Contents, KindSegment, Segment, segment_key, Difference, HasNoCollisions, Piece, Data, Node, HasPieceOf, IsPieceOf, open_of, History, HasHistory, turn_of, IsItem, IsOffered, SessionState, turn_node, opens_are_pieces, turns_are_pieces, one_of, Asked, HasSegment, IsDueStep, Session, of_files, ClashesWith, IsHeldNode}
+use Rattle.script_runner.proofs.Prelude.{◌≡◌, inl, inr, ◌∙◌, ℕ, Bool, List, [], ◌∷◌, ◌++◌, Option, Some, None, refl, sym, ap, subst, arith, length, AllByRecursion, byte_at, Kind, Leaf, Tree, Contents, KindSegment, Segment, segment_key, Difference, HasNoCollisions, Piece, Data, Node, HasPieceOf, IsPieceOf, offered_in, History, HasHistory, turn_of, IsItem, IsOffered, SessionState, turn_node, turns_are_pieces, one_of, Asked, HasSegment, IsDueStep, Session, of_files, ClashesWith, IsHeldNode}
+use Rattle.ingest_session.proofs.Members.{all_then}
 use Rattle.std.proofs.Common.{slice_get, append-nil}
 use Rattle.sha2.specs.Sha256.{sha256}
 use Rattle.base_model.specs.Bytes.{key_of}
@@ -10,10 +11,15 @@ use Rattle.store_model.specs.Pieces.{piece_bytes, piece_key}
 use Rattle.store_model.specs.Slots.{newest}
 use Rattle.store_model.specs.Trees.{bytes_at}
 use Rattle.ingest_session.specs.declared.due.Due.TheVariants as dues
-use Rattle.ingest_session.proofs.Waiting as waiting
+use Rattle.ingest_session.specs.Due.{segments_of_all}
+use Rattle.ingest_session.proofs.Offered.{offered_are_pieces}
+use Rattle.ingest_session.proofs.SealsSome.{offer_kinds}
+use Rattle.ingest_session.proofs.Waiting.{session_of}
 use Rattle.store_machine.specs.Asked as asked
 use Rattle.store_machine.specs.Needs.{DifferBy}
+use Rattle.store_machine.specs.Offers.{AllSegments}
 use Rattle.store_machine.specs.Twins.{HasTwins, IsOfGiven}
+use Rattle.store_machine.proofs.OfOneKind.{each_of}
 
 -- ---- a node that a step has
 
@@ -40,12 +46,13 @@ module _ (s : SessionState) (h : History) (has : HasHistory s h) (given : List �
       subst (λ (file : List ℕ). IsNodeOfFile file seg.segment.bytes) whole
       (item_node (turn_node s) s.queue seg (h.given ++ []) (turns_are_pieces s h [] has (λ ended. refl)) offered.is tree)
 
-  sealed_node : (kind : Kind) (index : ℕ) (x : Segment) → slice_get (open_of s kind).segments index ≡ Some x → kind ≡ Tree → IsNodeOfFile given x.bytes
-  sealed_node kind index x there tree =
-      subst (λ (file : List ℕ). IsNodeOfFile file x.bytes) whole
-      (piece_node (h.given ++ []) (record { kind = kind; segment = x })
-      (one_of (λ y. HasPieceOf (h.given ++ []) (record { kind = kind; segment = y })) (open_of s kind).segments x
-      (opens_are_pieces s h [] has (λ ended. refl) kind) (index, there)) tree)
+  -- each segment of what is offered is a piece
+  sealed_nodes : (kind : Kind) → AllSegments (λ k x. k ≡ Tree → IsNodeOfFile given x.bytes) (offered_in s kind)
+  sealed_nodes kind = each_of (λ k x. k ≡ Tree → IsNodeOfFile given x.bytes) kind (offered_in s kind) (offer_kinds s kind (session_of s h has))
+      (all_then (λ x. HasPieceOf (h.given ++ []) (record { kind = kind; segment = x })) (λ x. kind ≡ Tree → IsNodeOfFile given x.bytes)
+      (segments_of_all (offered_in s kind))
+      (λ x piece tree. subst (λ (file : List ℕ). IsNodeOfFile file x.bytes) whole (piece_node (h.given ++ []) (record { kind = kind; segment = x }) piece tree))
+      (offered_are_pieces s h [] has (λ ended. refl) kind))
 
 -- each node that a step has, which is due, is one of what was given
 pub due_node : (s : Session) (step : Asked (List ℕ)) (seg : KindSegment) → IsDueStep of_files s step → HasSegment step seg → seg.kind ≡ Tree
@@ -53,16 +60,15 @@ pub due_node : (s : Session) (step : Asked (List ℕ)) (seg : KindSegment) → I
 due_node s (asked.Claim offered) seg (dues.Claim, is, asks) one tree =
     subst (λ (x : KindSegment). IsNodeOfFile s.given x.segment.bytes) (sym one)
     (offered_node is.session is.history is.has s.given is.given_is offered asks (ap (λ (x : KindSegment). x.kind) (sym one) ∙ tree))
-due_node s (asked.Seal offered) seg (dues.Seal kind, is, asks) one tree = by (subst (λ (cs : List Contents). HasSegment (asked.Seal cs) seg) asks one)
+due_node s (asked.Seal offered) seg (dues.Seal kind, is, asks) one tree =
+    by offered one (subst (AllSegments (λ k x. k ≡ Tree → IsNodeOfFile s.given x.bytes)) (sym asks)
+    (sealed_nodes is.session is.history is.has s.given is.given_is kind))
   where
-    sealed_kind : (k : Kind) → (open_of is.session k).kind ≡ Tree → k ≡ Tree
-    sealed_kind Tree same = refl
-    sealed_kind Leaf same = absurd (let wrong : Leaf ≡ Tree = sym (waiting.session_of is.session is.history is.has).data_kind ∙ same in cc)
-
-    by : HasSegment (asked.Seal (open_of is.session kind ∷ [])) seg → IsNodeOfFile s.given seg.segment.bytes
-    by (inl (kind_is, (index, there))) =
-        sealed_node is.session is.history is.has s.given is.given_is kind index seg.segment there (sealed_kind kind (sym kind_is ∙ tree))
-    by (inr none) = absurd none
+    by : (cs : List Contents) → HasSegment (asked.Seal cs) seg → AllSegments (λ k x. k ≡ Tree → IsNodeOfFile s.given x.bytes) cs → IsNodeOfFile s.given seg.segment.bytes
+    by [] none each = absurd none
+    by (c ∷ cs) (inl (kind_is, there)) each =
+        one_of (λ x. c.kind ≡ Tree → IsNodeOfFile s.given x.bytes) c.segments seg.segment each.0 there (sym kind_is ∙ tree)
+    by (c ∷ cs) (inr later) each = by cs later each.1
 due_node s (asked.Claim offered) seg (dues.Seal kind, is, asks) one tree = absurd asks
 due_node s (asked.Claim offered) seg (dues.Nothing, is, asks) one tree = absurd asks
 due_node s (asked.Seal offered) seg (dues.Claim, is, asks) one tree = absurd asks

@@ -34,7 +34,7 @@ use Rattle.session_turns.specs.Turns.{session_at}
 turn_reply : (a : ℕ) (answer : Answer) (told : Turned) (buf : List ℕ) → turned (Some answer) ≡ Some told → replies.Turn a told ≡ reply_of a (answered_by (Ok answer) buf)
 turn_reply a answers.Held told buf is = ap (replies.Turn a) (let same : told ≡ turns.Held = cc in same)
 turn_reply a answers.Absent told buf is = ap (replies.Turn a) (let same : told ≡ turns.Absent = cc in same)
-turn_reply a (answers.Sealed id) told buf is = ap (replies.Turn a) (let same : told ≡ turns.Sealed id = cc in same)
+turn_reply a (answers.Sealed id count) told buf is = ap (replies.Turn a) (let same : told ≡ turns.Sealed id = cc in same)
 turn_reply a answer told buf is = absurd cc
 
 -- nothing is due of a session, whether it found so or not

@@ -1,5 +1,5 @@
 -- Turns of a session as steps of a machine that fits the core, each as it was due.
-use Rattle.script_runner.proofs.Prelude.{◌≡◌, ◌≢◌, ◌⊎◌, inl, inr, ◌∙◌, ℕ, Bool, List, [], ◌∷◌, ◌++◌, Some, None, Result, Ok, Err, refl, sym, ap, subst, Answer, StepValue, Refusal, Due, due_in, open_of, IsDueFor, HasHistory, answered, SessionState, Event, IsRunning, Asked, AreTurns, IsDueStep, Session, step_of, Machine, Stepped, Values, answered_by, asked_as, Asks, IsPaused, IsRefusedTurn, TurnRun, TurnsStopped, IsSessionOf, Kept}
+use Rattle.script_runner.proofs.Prelude.{◌≡◌, ◌≢◌, ◌⊎◌, inl, inr, ◌∙◌, ℕ, Bool, List, [], ◌∷◌, ◌++◌, Some, None, Result, Ok, Err, refl, sym, ap, subst, Answer, StepValue, Refusal, Due, due_in, offered_in, IsDueFor, HasHistory, answered, SessionState, Event, IsRunning, Asked, AreTurns, IsDueStep, Session, step_of, Machine, Stepped, Values, answered_by, asked_as, Asks, IsPaused, IsRefusedTurn, TurnRun, TurnsStopped, IsSessionOf, Kept}
 use Rattle.actor_parts.specs.declared.step.Answer.TheVariants as answers
 use Rattle.actor_parts.specs.Parts.{part_of}
 use Rattle.actor_parts.specs.StepValue as steps
@@ -10,7 +10,7 @@ use Rattle.script_lines.specs.ReplyValue as replies
 use Rattle.store_machine.specs.Lines as machine
 use Rattle.store_machine.specs.Lines.{StopsAfter, answer_of}
 use Rattle.session_turns.specs.Turns.{AreForRoom, IsCrowded, IsTurn, StopForRoom, session_at}
-use Rattle.session_turns.proofs.Told.{told}
+use Rattle.ingest_session.proofs.Staying.{told}
 use Rattle.script_runner.proofs.DeskRuns.{Ran, ran_none, ran_on}
 use Rattle.script_runner.proofs.DeskSessions.{session_on}
 use Rattle.script_runner.proofs.DeskSteps.{Makes, makes}
@@ -63,11 +63,11 @@ crowded_of v P s x is crowded =
     (crowded.0, of.history, of.has, of.given_is, of.answers_are, of.ended_is, crowded.2)
 
 -- an answer that is due is told
-pub answer_told : (answer : Answer) (due : Due) (buf : List ℕ) → IsAnswerFor answer due → answer_of (answered_by (Ok answer) buf) ≡ Some answer
-answer_told answers.Held due buf fits = refl
-answer_told answers.Absent due buf fits = refl
-answer_told (answers.Sealed id) due buf fits = refl
-answer_told answer due buf fits = absurd fits
+pub answer_told : (answer : Answer) (x : SessionState) (buf : List ℕ) → IsAnswerFor answer x → answer_of (answered_by (Ok answer) buf) ≡ Some answer
+answer_told answers.Held x buf fits = refl
+answer_told answers.Absent x buf fits = refl
+answer_told (answers.Sealed id count) x buf fits = refl
+answer_told answer x buf fits = absurd fits
 
 module _ {V R : Type 0} (v : Values V R) where
   -- turns made for room, and one more step that was refused
@@ -120,12 +120,12 @@ module _ (F : Fitted) (a : ℕ) where
     is_asked = asks.2;
   }
   asks_for (dues.Seal kind) s x result m old new is allowed runs fits asks = record {
-    step = steps.Seal (open_of x kind);
+    step = steps.Seal (offered_in x kind);
     buf = asks.0;
-    made = makes F (event (steps.Seal (open_of x kind)) result asks.0) s.given old new m runs fits
-        (x, kind, taken_of Allowed (owned a m old) s x is allowed, asks.1, refl, asks.2) asks.3;
+    made = makes F (event (steps.Seal (offered_in x kind)) result asks.0) s.given old new m runs fits
+        (x, kind, taken_of Allowed (owned a m old) s x is allowed, asks.1, refl) asks.3;
     asks = refl;
-    is_asked = (refl, asks.2);
+    is_asked = refl;
   }
   asks_for dues.Nothing s x result m old new is allowed runs fits asks = absurd asks
 
@@ -152,7 +152,7 @@ module _ (F : Fitted) (a : ℕ) where
         buf = asks.buf;
         made = asks.made;
         due = (due_in z, due_of (owned a m old) s z of turn.settled, asks.asks);
-        told_is = answer_told answer (due_in z) asks.buf turn.fits;
+        told_is = answer_told answer z asks.buf turn.fits;
         is = record {
           history = answered answer z of.history;
           has = has;

@@ -1,5 +1,5 @@
 -- The machine of files fits a core whose disk tells its content; and so lines over such a core are lines of it.
-use Rattle.script_runner.proofs.Prelude.{◌≡◌, ◌⊎◌, ◌∙◌, ◌<◌, ◌≤◌, inl, inr, ℕ, zero, suc, Bool, List, [], ◌∷◌, ◌++◌, length, replicate, Option, Some, None, Result, Ok, Err, refl, sym, ap, subst, arith, length-replicate, AllByRecursion, DiskView, OnlyReads, leaves_weaker, Root, MOST_FILE, Top, KnownWith, ACTORS, Answer, StepValue, apart, Kind, Leaf, Tree, Contents, KindSegment, Segment, Refusal, Due, due_in, open_of, kept, History, answered, no_history, turn_of, IsItem, IsOffered, SessionState, turn_node, all_is_kept, bytes_are_counted, opens_are_pieces, turns_are_pieces, all_of, in_none, one_of, ByteSet, HasNoCollisions, Data, HasPieceOf, IsPieceOf, Node, piece_segment, root_of, Stop, BeginRow, CoreStep, Row, StepsOr, kept_by, StaysOrStops, FileEvent, FileStep, IsNoGcStep, IsRootOf, CoreState, Event, running_step, Replied, Asked, step_of, FileMachine, RunState, Running, Stopped, of_files, Store, ChangesBytes, IsAtFiles, IsReady, FileDesk, HoldsKept, Kept, SameSessions, of_kind}
+use Rattle.script_runner.proofs.Prelude.{HasHistory, ◌≡◌, ◌⊎◌, ◌∙◌, ◌<◌, ◌≤◌, inl, inr, ℕ, zero, suc, Bool, List, [], ◌∷◌, ◌++◌, length, replicate, Option, Some, None, Result, Ok, Err, refl, sym, ap, subst, arith, length-replicate, AllByRecursion, DiskView, OnlyReads, leaves_weaker, Root, MOST_FILE, Top, KnownWith, ACTORS, Answer, StepValue, apart, Kind, Leaf, Tree, Contents, KindSegment, Segment, Refusal, Due, due_in, offered_in, kept, History, answered, no_history, turn_of, IsItem, IsOffered, SessionState, turn_node, all_is_kept, bytes_are_counted, turns_are_pieces, all_of, in_none, one_of, ByteSet, HasNoCollisions, Data, HasPieceOf, IsPieceOf, Node, piece_segment, root_of, Stop, BeginRow, CoreStep, Row, StepsOr, kept_by, StaysOrStops, FileEvent, FileStep, IsNoGcStep, IsRootOf, CoreState, Event, running_step, Replied, Asked, step_of, FileMachine, RunState, Running, Stopped, of_files, Store, ChangesBytes, IsAtFiles, IsReady, FileDesk, HoldsKept, Kept, SameSessions, of_kind}
 use Rattle.std.proofs.Common.{slice_index_or}
 use Rattle.std.specs.FinMap as finite
 use Rattle.merkle_file.specs.Node as node
@@ -12,13 +12,18 @@ use Rattle.actor_parts.specs.StepValue as steps
 use Rattle.actor_parts.specs.StepValue.{IsStep}
 use Rattle.refusals.specs.declared.refusal.Refusal.TheVariants as refusals
 use Rattle.ingest_session.specs.declared.due.Due.TheVariants as dues
+use Rattle.ingest_session.specs.Due.{segments_of_all}
 use Rattle.ingest_session.specs.Facts.{MayFollow}
+use Rattle.ingest_session.proofs.Offered.{offered_are_pieces}
+use Rattle.ingest_session.proofs.SealsSome.{offer_kinds}
+use Rattle.ingest_session.proofs.Waiting.{session_of}
 use Rattle.store_model.specs.Collisions.{IsAmong, IsIn}
 use Rattle.store_core.specs.Keeping.{IsHeldIn}
-use Rattle.store_core.specs.Runs.{IsGivenRight, IsRightCommit}
+use Rattle.store_core.specs.Runs.{AreAmong, IsGivenRight, IsRightCommit}
 use Rattle.store_machine.specs.Asked as asked_of
 use Rattle.store_machine.specs.Forgetting.{SameParts, SameState}
 use Rattle.store_machine.specs.Machine.{Found, Idle, Part, Reading, Writing, kind_of}
+use Rattle.store_machine.proofs.OfOneKind.{each_of}
 use Rattle.core_machine.specs.Files.{FitsBy, IsFileMachine, IsOfFile, IsOfFound, MayStand}
 use Rattle.core_machine.proofs.FileCrashes.{stands_found}
 use Rattle.core_machine.proofs.FileOpened.{files_opened, files_reopened_not}
@@ -101,16 +106,16 @@ module _ (C : Type 0) (state : C → CoreState) (among : ByteSet) (distinct : Ha
     claim_among seg offered = are_among seg.kind seg.segment
         (by_given seg (λ more may. offered_piece (taken.history.given ++ more) (turn_node x) x.queue seg offered.is (turns_are_pieces x taken.history more taken.has may)))
 
-    open_among : (kind : Kind) → AllByRecursion (λ y. IsAmong S kind y.bytes) (open_of x kind).segments
-    open_among kind = all_of (λ y. IsAmong S kind y.bytes) (open_of x kind).segments
+    offered_among : (kind : Kind) → AllByRecursion (λ y. IsAmong S kind y.bytes) (segments_of_all (offered_in x kind))
+    offered_among kind = all_of (λ y. IsAmong S kind y.bytes) (segments_of_all (offered_in x kind))
         (λ y is. are_among kind y (by_given (of_kind kind y)
-        (λ more may. one_of (λ z. HasPieceOf (taken.history.given ++ more) (of_kind kind z)) (open_of x kind).segments y
-        (opens_are_pieces x taken.history more taken.has may kind) is)))
+        (λ more may. one_of (λ z. HasPieceOf (taken.history.given ++ more) (of_kind kind z)) (segments_of_all (offered_in x kind)) y
+        (offered_are_pieces x taken.history more taken.has may kind) is)))
 
-    seal_among : (filled : Contents) (kind : Kind) → filled ≡ open_of x kind → filled.kind ≡ kind → AllByRecursion (λ y. IsAmong S filled.kind y.bytes) filled.segments
-    seal_among filled kind filled_is kind_is =
-        subst (λ (k : Kind). AllByRecursion (λ y. IsAmong S k y.bytes) filled.segments) (sym kind_is)
-        (subst (λ (c : Contents). AllByRecursion (λ y. IsAmong S kind y.bytes) c.segments) (sym filled_is) (open_among kind))
+    seal_among : (offered : List Contents) (kind : Kind) → offered ≡ offered_in x kind → AreAmong S offered
+    seal_among offered kind is =
+        subst (AreAmong S) (sym is)
+        (each_of (λ k y. IsAmong S k y.bytes) kind (offered_in x kind) (offer_kinds x kind (session_of x taken.history taken.has)) (offered_among kind))
 
   -- ---- a machine that fits
 
@@ -157,7 +162,7 @@ module _ (C : Type 0) (state : C → CoreState) (among : ByteSet) (distinct : Ha
     given_by : (step : StepValue) → IsOfGiven Allowed (λ k. OwnsKept e.actor k m (state old)) step given → CoreStep (state old) e (state new)
         → IsStep step × IsGivenRight S step e.answer given (state old) × IsOfFile step given
     given_by (steps.Claim seg) right step = (right.2.right, claim_among (λ k. OwnsKept e.actor k m (state old)) given right.0 right.1 seg right.2, tt)
-    given_by (steps.Seal filled) right step = (right.3, seal_among (λ k. OwnsKept e.actor k m (state old)) given right.0 right.2 filled right.1 right.4 right.5, tt)
+    given_by (steps.Seal offered) right step = (right.3, seal_among (λ k. OwnsKept e.actor k m (state old)) given right.0 right.2 offered right.1 right.4, tt)
     given_by (steps.Commit name root) right step = (
       tt,
       commit_by root (state old).stop refl (root_right m (state old) fits e.actor given right.0 root right.1 right.2 right.3) step,
@@ -219,16 +224,16 @@ module _ (C : Type 0) (state : C → CoreState) (among : ByteSet) (distinct : Ha
       no_gc x (dues.Seal kind) (steps.Seal filled) asked = tt
       no_gc x due step asked = absurd asked
 
-      turned : (x : SessionState) (h : History) (answer : Answer) → IsAskedFor (due_in x) x e.step → e.answer ≡ Ok answer → OwnsKept e.actor (kept h) m (state old)
+      turned : (x : SessionState) (h : History) (answer : Answer) → HasHistory x h → IsAskedFor (due_in x) x e.step → e.answer ≡ Ok answer → OwnsKept e.actor (kept h) m (state old)
           → OwnsKept e.actor (kept (answered answer x h)) n (state new)
-      turned x h answer asked answer_is own = (
+      turned x h answer has asked answer_is own = (
         own.0,
         λ stays.
             let at = at_files m (state old) fits (ran stays) in
             let row = (running_step (state old) (state new) e (ran stays) made.made).made.row in
             let other = no_gc x (due_in x) e.step asked in
             turned_then (state old) (state new) e.actor own.0 at.is_at.many x h (own.1 (ran stays))
-            (held_by C state among distinct f old new m at made stays other) e.step answer e.buf asked
+            (held_by C state among distinct f old new m at made stays other) has e.step answer e.buf asked
             (subst (λ (told : Result Answer Refusal). Row e.step e.actor told e.buf (state old) (state new)) answer_is row)
             (subst (λ (told : Result Answer Refusal). AllByRecursion (λ seg. IsHeldIn seg (state new)) (kept_by e.step told)) answer_is
             (kept_then C state among distinct f old new m at made stays other)),
@@ -240,7 +245,7 @@ module _ (C : Type 0) (state : C → CoreState) (among : ByteSet) (distinct : Ha
         quiet = λ k quiet own. owns_on e.actor k (quiet_keeps e (state old) (state new) quiet made.made) own;
         refused = λ k refusal is own. owns_on e.actor k (refused_keeps e (state old) (state new) refusal is made.made) own;
         begun = begun;
-        turned = λ x h answer has asked is told own. turned x h answer asked is own;
+        turned = λ x h answer has asked is told own. turned x h answer has asked is own;
       }
 
   -- ---- a core that was not opened again

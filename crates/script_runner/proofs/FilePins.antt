@@ -2,10 +2,12 @@
 use Rattle.script_runner.proofs.Prelude.{◌≡◌, ◌∙◌, ℕ, zero, suc, Bool, true, false, cond, List, [], ◌∷◌, Some, refl, sym, ap, subst, slice_cmp, nat_list_cmp_total, nat_cmp, eq_by_cmp, Kind, Segment, segment_key, Pin, PinMap, with_pins, in_none}
 use Rattle.std.specs.FinMap as finite
 use Rattle.actor_parts.specs.Segments.{pin_by}
-use Rattle.ingest_session.proofs.Members.{IsIn}
+use Rattle.container_meta.specs.Segments.{Contents}
+use Rattle.ingest_steps.specs.Offering.{with_pins_of}
+use Rattle.store_machine.specs.Offers.{AllSegments}
 use Rattle.std.proofs.lemmas.Slice.Eq.{bytes_eq-Decides}
 use Rattle.store_model.proofs.Indexing.{tied}
-use Rattle.ingest_session.proofs.Members.{IsIn}
+use Rattle.ingest_session.proofs.Members.{IsIn, all_of}
 
 same_key : (key : List ℕ) → eq_by_cmp (slice_cmp nat_cmp) key key ≡ true
 same_key key = tied key key ∙ (bytes_eq-Decides key key).1 refl
@@ -42,3 +44,18 @@ module _ (kind : Kind) where
       pins_on ys (finite.insert pins (segment_key kind y) (pin_by kind y)) (segment_key kind x)
       (pin_now pins (segment_key kind y) (pin_by kind y) (segment_key kind x) (ap (segment_key kind) (sym same)))
   pins_now (y ∷ ys) pins x (suc i, is) = pins_now ys (finite.insert pins (segment_key kind y) (pin_by kind y)) x (i, is)
+
+-- ---- of several containers
+
+pub pins_on_all : (cs : List Contents) (pins : PinMap) (key : List ℕ) → HasPin pins key → HasPin (with_pins_of cs pins) key
+pins_on_all [] pins key has = has
+pins_on_all (c ∷ cs) pins key has = pins_on_all cs (with_pins c.kind c.segments pins) key (pins_on c.kind c.segments pins key has)
+
+pub pins_now_all : (cs : List Contents) (pins : PinMap) → AllSegments (λ k x. HasPin (with_pins_of cs pins) (segment_key k x)) cs
+pins_now_all [] pins = tt
+pins_now_all (c ∷ cs) pins =
+    let more : PinMap = with_pins c.kind c.segments pins in (
+      all_of (λ x. HasPin (with_pins_of cs more) (segment_key c.kind x)) c.segments
+          (λ x is. pins_on_all cs more (segment_key c.kind x) (pins_now c.kind c.segments pins x is)),
+      pins_now_all cs more,
+    )

@@ -1,5 +1,5 @@
 -- What an actor has kept of a file is held and pinned still, once the answer to a turn is told.
-use Rattle.script_runner.proofs.Prelude.{ACTORS, AllByRecursion, Answer, Claim, Contents, CoreState, Due, History, HoldsKept, IsOffered, Kind, KindSegment, List, Nothing, Ok, PinMap, Row, Seal, Segment, SessionState, StepValue, [], answered, ap, apart, arith, due_in, inl, inr, item_is, kept, kept_absent, kept_by, kept_held, kept_sealed, length, of_kind, one_item, one_of, open_of, pin_of, refl, segment_key, subst, sym, turn_node, with_pins, ℕ, ◌<◌, ◌∙◌, ◌∷◌, ◌≡◌}
+use Rattle.script_runner.proofs.Prelude.{kept_sealed, ACTORS, AllByRecursion, Answer, Claim, Contents, CoreState, Due, History, HoldsKept, IsOffered, Kind, KindSegment, List, Nothing, Ok, PinMap, Row, Seal, Segment, SessionState, StepValue, [], answered, ap, apart, arith, due_in, inl, inr, item_is, kept, kept_absent, kept_by, kept_held, length, of_kind, one_item, offered_in, pin_of, refl, segment_key, subst, sym, turn_node, HasHistory, ℕ, ◌<◌, ◌≤◌, ◌∙◌, ◌∷◌, ◌≡◌}
 use Rattle.std.specs.FinMap as finite
 use Rattle.actor_parts.specs.declared.part.Part as core_part
 use Rattle.actor_parts.specs.declared.part.Part.TheVariants as core_parts
@@ -10,17 +10,29 @@ use Rattle.ingest_steps.specs.Claiming.{key_of_seg}
 use Rattle.ingest_session.specs.declared.due.Due.TheVariants as dues
 use Rattle.ingest_session.specs.History.{item_if}
 use Rattle.ingest_session.specs.Items.{item_of}
-use Rattle.ingest_session.proofs.Members.{IsIn}
-use Rattle.store_core.specs.Keeping.{IsHeldIn}
-use Rattle.script_runner.proofs.FilePins.{HasPin, pin_now, pin_on, pins_now, pins_on}
+use Rattle.ingest_session.specs.Due.{segments_of_all}
+use Rattle.ingest_session.proofs.Members.{IsIn, all_after, all_before}
+use Rattle.ingest_session.proofs.SealsSome.{offer_kinds}
+use Rattle.ingest_session.proofs.Waiting.{session_of}
+use Rattle.ingest_steps.specs.Offering.{with_pins_of}
+use Rattle.store_machine.specs.Offers.{AllSegments}
+use Rattle.store_machine.proofs.OfOneKind.{AreOf, all_taken, one_of_all}
+use Rattle.store_core.specs.Keeping.{IsHeldIn, segments_in}
+use Rattle.script_runner.proofs.FilePins.{HasPin, pin_now, pin_on, pins_now_all, pins_on_all}
 use Rattle.script_runner.proofs.Fitting.{IsAskedFor}
-use Rattle.std.proofs.Common.{map}
-use Rattle.store_core.specs.Keeping.{IsHeldIn}
-use Rattle.ingest_session.proofs.Members.{IsIn}
+use Rattle.std.proofs.Common.{map, take}
 
 unmapped : {A B : Type 0} (P : B → Type 0) (f : A → B) (xs : List A) → AllByRecursion P (map f xs) → AllByRecursion (λ x. P (f x)) xs
 unmapped P f [] all = tt
 unmapped P f (x ∷ xs) all = (all.0, unmapped P f xs all.1)
+
+-- of what containers have, one after the other
+each_in : (P : KindSegment → Type 0) (cs : List Contents) → AllByRecursion P (segments_in cs) → AllSegments (λ k y. P (of_kind k y)) cs
+each_in P [] all = tt
+each_in P (c ∷ cs) all = (
+  unmapped P (of_kind c.kind) c.segments (all_before P (map (of_kind c.kind) c.segments) (segments_in cs) all),
+  each_in P cs (all_after P (map (of_kind c.kind) c.segments) (segments_in cs) all),
+)
 
 same_pins : (a b : PinMap) → core_parts.Writing a ≡ core_parts.Writing b → a ≡ b
 same_pins a b is = cc
@@ -71,42 +83,50 @@ module _ (old new : CoreState) (a : ℕ) (below : a < ACTORS) (many : length old
 
   -- ---- a seal
 
-  module _ (filled : Contents) (mine : Kind) (due : due_in x ≡ dues.Seal mine) (filled_is : filled ≡ open_of x mine) (kind_is : filled.kind ≡ mine) (id : ℕ) where
-    in_filled : (y : Segment) → IsIn y (open_of x mine).segments → IsIn y filled.segments
-    in_filled y is = subst (λ (c : Contents). IsIn y c.segments) (sym filled_is) is
+  module _ (offered : List Contents) (mine : Kind) (due : due_in x ≡ dues.Seal mine) (offered_is : offered ≡ offered_in x mine) (has : HasHistory x h) (id count : ℕ) where
+    abbrev sealed : List Contents
+    sealed = take count offered
+
+    kinds : AreOf mine sealed
+    kinds =
+        subst (λ (cs : List Contents). AreOf mine (take count cs)) (sym offered_is)
+        (all_taken (λ c. c.kind ≡ mine) count (offered_in x mine) (offer_kinds x mine (session_of x h has)))
+
+    in_sealed : (y : Segment) → IsIn y (segments_of_all (take count (offered_in x mine))) → IsIn y (segments_of_all sealed)
+    in_sealed y is = subst (λ (cs : List Contents). IsIn y (segments_of_all (take count cs))) (sym offered_is) is
 
     sealed_then : (pins : PinMap) → part_of old.parts a ≡ core_parts.Writing pins
-        → new.parts ≡ with_part old.parts a (core_parts.Writing (with_pins filled.kind filled.segments pins))
-        → AllByRecursion (λ y. IsHeldIn (of_kind filled.kind y) new) filled.segments → Then (answers.Sealed id)
+        → new.parts ≡ with_part old.parts a (core_parts.Writing (with_pins_of sealed pins))
+        → AllSegments (λ k y. IsHeldIn (of_kind k y) new) sealed → Then (answers.Sealed id count)
     sealed_then pins was is all = record {
-      pins = with_pins filled.kind filled.segments own.pins;
-      writing = as_own pins (with_pins filled.kind filled.segments) was is;
-      held = λ kind y there. elim (kept_sealed x h kind y id mine due there) [
+      pins = with_pins_of sealed own.pins;
+      writing = as_own pins (with_pins_of sealed) was is;
+      held = λ kind y there. elim (kept_sealed x h kind y id count mine due there) [
         | inl before ↦ held (of_kind kind y) (own.held kind y before)
         | inr now ↦
-            subst (λ (k : Kind). IsHeldIn (of_kind k y) new) (kind_is ∙ sym now.0)
-            (one_of (λ z. IsHeldIn (of_kind filled.kind z) new) filled.segments y all (in_filled y now.1))
+            subst (λ (k : Kind). IsHeldIn (of_kind k y) new) (sym now.0)
+            (one_of_all (λ k z. IsHeldIn (of_kind k z) new) mine sealed kinds all y (in_sealed y now.1))
       ];
-      pinned = λ kind y there. elim (kept_sealed x h kind y id mine due there) [
-        | inl before ↦ pins_on filled.kind filled.segments own.pins (segment_key kind y) (own.pinned kind y before)
+      pinned = λ kind y there. elim (kept_sealed x h kind y id count mine due there) [
+        | inl before ↦ pins_on_all sealed own.pins (segment_key kind y) (own.pinned kind y before)
         | inr now ↦
-            subst (λ (k : Kind). HasPin (with_pins filled.kind filled.segments own.pins) (segment_key k y)) (kind_is ∙ sym now.0)
-            (pins_now filled.kind filled.segments own.pins y (in_filled y now.1))
+            subst (λ (k : Kind). HasPin (with_pins_of sealed own.pins) (segment_key k y)) (sym now.0)
+            (one_of_all (λ k z. HasPin (with_pins_of sealed own.pins) (segment_key k z)) mine sealed kinds (pins_now_all sealed own.pins) y (in_sealed y now.1))
       ];
     }
 
   -- ---- any turn
 
-  turned_by : (due : Due) → due_in x ≡ due → (step : StepValue) (answer : Answer) (buf : List ℕ) → IsAskedFor due x step → Row step a (Ok answer) buf old new
+  turned_by : HasHistory x h → (due : Due) → due_in x ≡ due → (step : StepValue) (answer : Answer) (buf : List ℕ) → IsAskedFor due x step → Row step a (Ok answer) buf old new
       → AllByRecursion (λ seg. IsHeldIn seg new) (kept_by step (Ok answer)) → Then answer
-  turned_by dues.Claim is (steps.Claim seg) answers.Held buf asked row all = held_then seg asked row.claimed.may.pins row.claimed.may.writing row.claimed.parts_are all.0
-  turned_by dues.Claim is (steps.Claim seg) answers.Absent buf asked row all = absent_then row.claimed.parts_are
-  turned_by dues.Claim is (steps.Claim seg) answer buf asked row all = absurd row
-  turned_by (dues.Seal mine) is (steps.Seal filled) (answers.Sealed id) buf asked row all =
-      sealed_then filled mine is asked.0 asked.1 id row.may.pins row.may.writing row.parts_are (unmapped (λ seg. IsHeldIn seg new) (of_kind filled.kind) filled.segments all)
-  turned_by (dues.Seal mine) is (steps.Seal filled) answer buf asked row all = absurd row
-  turned_by due is step answer buf asked row all = absurd asked
+  turned_by has dues.Claim is (steps.Claim seg) answers.Held buf asked row all = held_then seg asked row.claimed.may.pins row.claimed.may.writing row.claimed.parts_are all.0
+  turned_by has dues.Claim is (steps.Claim seg) answers.Absent buf asked row all = absent_then row.claimed.parts_are
+  turned_by has dues.Claim is (steps.Claim seg) answer buf asked row all = absurd row
+  turned_by has (dues.Seal mine) is (steps.Seal offered) (answers.Sealed id count) buf asked row all =
+      sealed_then offered mine is asked has id count row.may.pins row.may.writing row.parts_are (each_in (λ seg. IsHeldIn seg new) (take count offered) all)
+  turned_by has (dues.Seal mine) is (steps.Seal offered) answer buf asked row all = absurd row
+  turned_by has due is step answer buf asked row all = absurd asked
 
-  pub turned_then : (step : StepValue) (answer : Answer) (buf : List ℕ) → IsAskedFor (due_in x) x step → Row step a (Ok answer) buf old new
+  pub turned_then : HasHistory x h → (step : StepValue) (answer : Answer) (buf : List ℕ) → IsAskedFor (due_in x) x step → Row step a (Ok answer) buf old new
       → AllByRecursion (λ seg. IsHeldIn seg new) (kept_by step (Ok answer)) → Then answer
-  turned_then step answer buf asked row all = turned_by (due_in x) refl step answer buf asked row all
+  turned_then has step answer buf asked row all = turned_by has (due_in x) refl step answer buf asked row all

@@ -1,5 +1,5 @@
 -- What a relation of machines and cores is to give for lines over a core to be lines of the machine.
-use Rattle.script_runner.proofs.Prelude.{◌≡◌, ◌≢◌, ◌⊎◌, ◌<◌, ◌≤◌, ℕ, Bool, List, Some, None, Ok, Err, CrashLeaves, DiskView, IsLater, ACTORS, Answer, StepValue, Kind, Refusal, Memory, Due, due_in, open_of, kept, History, HasHistory, answered, no_history, IsOffered, SessionState, root_of, Stop, CoreStep, OpensCore, OpensNone, StaysOrStops, CoreState, Event, IsRunning, Asked, Legal, LineValue, ReplyValue, Desk, step_of, Machine, Running, Stopped, part_in, Values, answered_by, asked_as, IsReady, RunnerState, Beside, Kept}
+use Rattle.script_runner.proofs.Prelude.{◌≡◌, ◌≢◌, ◌⊎◌, ◌<◌, ◌≤◌, ℕ, Bool, List, Some, None, Ok, Err, CrashLeaves, DiskView, IsLater, ACTORS, Answer, StepValue, Kind, Refusal, Memory, Due, due_in, offered_in, kept, History, HasHistory, answered, no_history, IsOffered, SessionState, root_of, Stop, CoreStep, OpensCore, OpensNone, StaysOrStops, CoreState, Event, IsRunning, Asked, Legal, LineValue, ReplyValue, Desk, step_of, Machine, Running, Stopped, part_in, Values, answered_by, asked_as, IsReady, RunnerState, Beside, Kept}
 use Rattle.std.specs.FinMap as finite
 use Rattle.actor_parts.specs.Kinds as core_kinds
 use Rattle.actor_parts.specs.Parts.{part_of}
@@ -22,19 +22,19 @@ pub record HasTaken (Allowed : List ℕ → Bool → Type 0) (P : Kept → Type 
   pub owns : P (kept history)
   pub allowed : Allowed given x.ended
 
--- What is so of a step that a line makes for one who gave these bytes: a session that took them offers what is claimed, and has filled what
+-- What is so of a step that a line makes for one who gave these bytes: a session that took them offers what is claimed, and what
 -- is sealed; a root is theirs, of a session that is ready.
 abbrev pub IsOfGiven : (Allowed : List ℕ → Bool → Type 0) (P : Kept → Type 0) → StepValue → List ℕ → Type 0
 IsOfGiven Allowed P (steps.Claim seg) given = (x : SessionState) × HasTaken Allowed P given x × IsOffered x seg
-IsOfGiven Allowed P (steps.Seal filled) given =
-    (x : SessionState) × (kind : Kind) × HasTaken Allowed P given x × IsStep (steps.Seal filled) × (filled ≡ open_of x kind) × (filled.kind ≡ kind)
+IsOfGiven Allowed P (steps.Seal offered) given =
+    (x : SessionState) × (kind : Kind) × HasTaken Allowed P given x × IsStep (steps.Seal offered) × (offered ≡ offered_in x kind)
 IsOfGiven Allowed P (steps.Commit name root) given = (x : SessionState) × HasTaken Allowed P given x × IsReady root x × (root ≡ root_of given)
 IsOfGiven Allowed P step given = Unit {0}
 
 -- what is due was asked for
 abbrev pub IsAskedFor : Due → SessionState → StepValue → Type 0
 IsAskedFor dues.Claim x (steps.Claim seg) = IsOffered x seg
-IsAskedFor (dues.Seal kind) x (steps.Seal filled) = (filled ≡ open_of x kind) × (filled.kind ≡ kind)
+IsAskedFor (dues.Seal kind) x (steps.Seal offered) = offered ≡ offered_in x kind
 IsAskedFor due x step = ⊥
 
 -- A step leaves to all actors what they own, but to one that is done in place of a turn; a file that begins owns nothing, and a turn that

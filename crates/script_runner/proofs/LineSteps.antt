@@ -1,5 +1,5 @@
 -- A line but `reopen` makes steps of the core, or none.
-use Rattle.script_runner.proofs.Prelude.{both_so, ◌≡◌, ◌≢◌, ◌⊎◌, inl, inr, ℕ, ◌+◌, ◌≤◌, List, [], ◌∷◌, ◌++◌, Option, Some, None, Result, Ok, Err, refl, ap, subst, arith, Answer, StepValue, Refusal, Memory, Due, Claim, Seal, Nothing, due_in, open_of, SessionState, pushed_bytes, ReplyValue, CoreStep, commands_in, CoreRun, AreNoGcSteps, IsNoGcStep, CoreState, Event, Asks, Feeds, IsPaused, IsRefusedTurn, TakesTurn, TurnRun, TurnsStopped, IsNoSweep, commands_of_line, ActsOrNot, DoesStep, RefusesPut, RefusesStep, RunnerState, RunsLine}
+use Rattle.script_runner.proofs.Prelude.{both_so, ◌≡◌, ◌≢◌, ◌⊎◌, inl, inr, ℕ, ◌+◌, ◌≤◌, List, [], ◌∷◌, ◌++◌, Option, Some, None, Result, Ok, Err, refl, ap, subst, arith, Answer, StepValue, Refusal, Memory, Due, Claim, Seal, Nothing, due_in, offered_in, SessionState, pushed_bytes, ReplyValue, CoreStep, commands_in, CoreRun, AreNoGcSteps, IsNoGcStep, CoreState, Event, Asks, Feeds, IsPaused, IsRefusedTurn, TakesTurn, TurnRun, TurnsStopped, IsNoSweep, commands_of_line, ActsOrNot, DoesStep, RefusesPut, RefusesStep, RunnerState, RunsLine}
 use Rattle.actor_parts.specs.declared.step.Answer.TheVariants as answers
 use Rattle.actor_parts.specs.StepValue as asked
 use Rattle.script_lines.specs.Grammar as lines
@@ -61,7 +61,7 @@ module _ (C : Type 0) (state : C → CoreState) where
 
   asks : (actor : ℕ) (due : Due) (s : SessionState) (answer : Result Answer Refusal) (old new : C) → Asks actor due s answer (state old) (state new) → Makes 0 old new
   asks actor Claim s answer old new is = single 0 old new (record { actor = actor; step = asked.Claim is.0; answer = answer; buf = is.1 }) tt (omega arith) is.3
-  asks actor (Seal kind) s answer old new is = single 0 old new (record { actor = actor; step = asked.Seal (open_of s kind); answer = answer; buf = is.0 }) tt (omega arith) is.3
+  asks actor (Seal kind) s answer old new is = single 0 old new (record { actor = actor; step = asked.Seal (offered_in s kind); answer = answer; buf = is.0 }) tt (omega arith) is.3
   asks actor Nothing s answer old new is = absurd is
 
   turns : (actor : ℕ) (given : List Answer) (s t : SessionState) (old new : C) → TurnRun C state actor given s t old new → Makes 0 old new

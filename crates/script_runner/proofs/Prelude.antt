@@ -46,7 +46,7 @@ pub use Rattle.ingest_session.proofs.Facts.{opens_are_pieces, turns_are_pieces}
 pub use Rattle.ingest_session.proofs.KeptPieces.{item_is, kept_absent, kept_held, kept_sealed, of_kind, one_item}
 pub use Rattle.ingest_session.proofs.Members.{all_of, in_none, one_of}
 pub use Rattle.ingest_session.specs.Calls.{IsPushAnswer}
-pub use Rattle.ingest_session.specs.Due.{due_in, open_of}
+pub use Rattle.ingest_session.specs.Due.{due_in, gathered, offered_in}
 pub use Rattle.ingest_session.specs.DueFor.{IsDueFor}
 pub use Rattle.ingest_session.specs.Facts.{kept}
 pub use Rattle.ingest_session.specs.History.{HasHistory, History, answered, no_history, turn_of}

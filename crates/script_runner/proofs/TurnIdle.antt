@@ -1,11 +1,12 @@
 -- A session of which nothing is due is settled, once whose turn it is was found.
-use Rattle.script_runner.proofs.Prelude.{◌≡◌, ◌∙◌, ℕ, Bool, true, false, if◌then◌else◌, List, [], ◌∷◌, ◌++◌, Option, Some, None, refl, sym, ap, subst, ◌&&◌, Kind, Leaf, Tree, KindSegment, leaf_key, node_key, Due, Claim, Seal, Nothing, due_in, open_of, History, HasHistory, SessionState, turn_node}
-use Rattle.std.specs.Prelude.{not}
+use Rattle.script_runner.proofs.Prelude.{◌≡◌, ◌∙◌, ℕ, Bool, true, false, if◌then◌else◌, List, [], ◌∷◌, ◌++◌, Option, Some, None, refl, sym, ap, subst, ◌&&◌, Kind, Leaf, Tree, KindSegment, leaf_key, node_key, Due, Claim, Seal, Nothing, due_in, gathered, History, HasHistory, SessionState, turn_node}
+use Rattle.std.specs.Prelude.{not, nat_lt, ◌==◌, length}
+use Rattle.actor_parts.specs.declared.step.TheConstants.{MOST_TOGETHER}
 use Rattle.merkle_file.specs.Node as node
 use Rattle.container_meta.specs.Segments.{has_key}
 use Rattle.actor_parts.specs.Segments.{child_kind}
 use Rattle.ingest_session.specs.Child.{has_child_of}
-use Rattle.ingest_session.specs.Due.{HasTurn, due_node, item_due, item_is_there, item_kind, queue_due, queue_is_there, turn_in}
+use Rattle.ingest_session.specs.Due.{HasTurn, due_node, item_due, item_is_there, item_kind, queue_due, queue_is_there, seals_data, turn_in}
 use Rattle.ingest_session.specs.History.{Moved}
 use Rattle.ingest_session.specs.Settling.{Turned}
 use Rattle.ingest_session.specs.Sound.{IsSession}
@@ -27,10 +28,10 @@ no_node false own kind is = no_claim own Tree is
 
 no_queue : (s : SessionState) (queue : List (List ℕ)) → queue_due s queue ≡ Nothing → queue ≡ []
 no_queue s [] is = refl
-no_queue s (x ∷ xs) is = absurd (no_claim (has_key s.leaves (leaf_key x)) Leaf is)
+no_queue s (x ∷ xs) is = absurd (no_claim (has_key (gathered s Leaf) (leaf_key x)) Leaf is)
 
 no_item : (s : SessionState) (n : Option node.Contents) → item_due s n ≡ Nothing → (n ≡ None) × (s.queue ≡ [])
-no_item s (Some n) is = absurd (no_node (has_child_of (open_of s (child_kind n.level)) n) (has_key s.nodes (node_key n)) (child_kind n.level) is)
+no_item s (Some n) is = absurd (no_node (has_child_of (gathered s (child_kind n.level)) n) (has_key s.nodes (node_key n)) (child_kind n.level) is)
 no_item s None is = (refl, no_queue s s.queue is)
 
 no_last : (ahead : Option KindSegment) (queue : List (List ℕ)) → queue ≡ [] → rest_after ahead queue ≡ []
@@ -77,6 +78,8 @@ module _ (s : SessionState) (sound : IsSession s) (nothing : due_in s ≡ Nothin
     next = sound.next;
     line = sound.line;
     nodes_right = sound.nodes_right;
+    aside = sound.aside;
+    together = sound.together;
     waits = λ on. never on;
     full = λ on. never on;
   }
@@ -99,9 +102,12 @@ module _ (s : SessionState) (sound : IsSession s) (nothing : due_in s ≡ Nothin
 
   pub settled_idle : IsSettled (idle s)
   settled_idle = record {
-    turn = λ _. refl;
-    none = and_not (not s.waits) (item_is_there s (due_node s)) not_there;
-    item = λ turn. absurd (no_turn turn);
-    claim = λ due. absurd (let both = sym due ∙ idle_due in cc);
-    closed = λ first last. sound.closed (ap (is_last s.ended) (none.1 ∙ sym (no_last s.ahead s.queue none.1)) ∙ last);
+    placed = record {
+      turn = λ _. refl;
+      none = and_not (not s.waits) (item_is_there s (due_node s)) not_there;
+      item = λ turn. absurd (no_turn turn);
+      claim = λ due. absurd (let both = sym due ∙ idle_due in cc);
+      closed = λ first last. sound.closed (ap (is_last s.ended) (none.1 ∙ sym (no_last s.ahead s.queue none.1)) ∙ last);
+    };
+    aside = ap (λ (d : Due). seals_data d && (not (length s.leaves.segments == 0) && nat_lt (length s.aside) MOST_TOGETHER)) idle_due;
   }

@@ -109,7 +109,7 @@ abbrev pub turned : Option Answer → Option Turned
 turned None = Some turns.Idle
 turned (Some answers.Held) = Some turns.Held
 turned (Some answers.Absent) = Some turns.Absent
-turned (Some (answers.Sealed id)) = Some (turns.Sealed id)
+turned (Some (answers.Sealed id count)) = Some (turns.Sealed id)
 turned (Some answer) = None
 
 abbrev pub Turns : (C : Type 0) → (C → CoreState) → ℕ → Result Turned Refusal → Sessions → Sessions → C → C → Type 0

@@ -92,7 +92,7 @@ fn turned(answer: &Option<Answer>) -> Option<Turned>
         None => Some(Turned::Idle),
         Some(Answer::Held) => Some(Turned::Held),
         Some(Answer::Absent) => Some(Turned::Absent),
-        Some(Answer::Sealed { id }) => Some(Turned::Sealed { id: *id }),
+        Some(Answer::Sealed { id, .. }) => Some(Turned::Sealed { id: *id }),
         Some(_) => None,
     }
 }

@@ -1,14 +1,15 @@
 -- Turns of a session, one after the other.
-use Rattle.std.proofs.Common.{◌∙◌, ◌<◌, ℕ, List, [], ◌∷◌, ◌++◌, Option, Some, None, Ok, Err, refl, sym, subst, append_assoc}
+use Rattle.std.proofs.Common.{◌≡◌, ◌∙◌, ◌<◌, ℕ, List, [], ◌∷◌, ◌++◌, Option, Some, None, Ok, Err, refl, sym, subst, append_assoc}
 use Rattle.std.proofs.lemmas.List.{append-nil}
-use Rattle.container_meta.specs.Segments.{Contents, KindSegment}
+use Rattle.container_meta.specs.Segments.{KindSegment}
+use Rattle.container_meta.specs.declared.kind.Kind.{Kind}
 use Rattle.actor_parts.specs.declared.step.Answer.{Answer}
 use Rattle.actor_parts.specs.declared.step.Answer.TheVariants as answers
 use Rattle.actor_parts.specs.StepValue as asked
 use Rattle.refusals.specs.declared.refusal.Refusal.{Refusal}
 use Rattle.ingest_session.specs.declared.due.Due.{Due}
 use Rattle.ingest_session.specs.declared.due.Due.TheVariants.{Claim, Seal, Nothing}
-use Rattle.ingest_session.specs.Due.{open_of}
+use Rattle.ingest_session.specs.Due.{due_in, offered_in}
 use Rattle.ingest_session.specs.declared.queue.TheConstants.{MOST_WAITING}
 use Rattle.ingest_session.specs.History.{HasHistory}
 use Rattle.ingest_session.specs.Settling.{seen}
@@ -18,40 +19,50 @@ use Rattle.store_core.specs.declared.stop.Stop.{Stop}
 use Rattle.store_core.specs.Core.{ClaimRow, SealRow, StepsOr}
 use Rattle.store_core.specs.State.{CoreState}
 use Rattle.session_turns.specs.Turns.{AreForRoom, Asks, IsCrowded, IsPaused, IsTurn, MakesRoom, TurnRun, TakesTurn, TakesTurns, session_at}
-use Rattle.session_turns.proofs.Told.{Stays, after, told}
+use Rattle.ingest_session.proofs.Settled.{keeps_on}
+use Rattle.ingest_session.proofs.Staying.{Stays, after, told}
 
 -- ---- an answer is one that the step can have
 
-claim_fits : (seg : KindSegment) (actor : ℕ) (answer : Answer) (buf : List ℕ) (stop : Option Stop) (old new : CoreState)
-    → StepsOr stop (record { actor = actor; step = asked.Claim seg; answer = Ok answer; buf = buf }) old new → IsAnswerFor answer Claim
-claim_fits seg actor answer buf (Some stop) old new step = absurd (let is = step.answer_is in cc)
-claim_fits seg actor answer buf None old new step = by_row answer step.made.row
-  where
-    by_row : (a : Answer) → ClaimRow seg actor (Ok a) old new → IsAnswerFor a Claim
-    by_row answers.Held row = refl
-    by_row answers.Absent row = refl
-    by_row a row = absurd row
+module _ (s : SessionState) (actor : ℕ) (answer : Answer) (buf : List ℕ) (stop : Option Stop) (old new : CoreState) where
+  claim_fits : (seg : KindSegment) → due_in s ≡ Claim → StepsOr stop (record { actor = actor; step = asked.Claim seg; answer = Ok answer; buf = buf }) old new
+      → IsAnswerFor answer s
+  claim_fits seg due step = by_stop stop step
+    where
+      by_row : (a : Answer) → ClaimRow seg actor (Ok a) old new → IsAnswerFor a s
+      by_row answers.Held row = due
+      by_row answers.Absent row = due
+      by_row a row = absurd row
 
-seal_fits : (kind : _) (filled : Contents) (actor : ℕ) (answer : Answer) (buf : List ℕ) (stop : Option Stop) (old new : CoreState)
-    → StepsOr stop (record { actor = actor; step = asked.Seal filled; answer = Ok answer; buf = buf }) old new → IsAnswerFor answer (Seal kind)
-seal_fits kind filled actor answer buf (Some stop) old new step = absurd (let is = step.answer_is in cc)
-seal_fits kind filled actor answer buf None old new step = by_row answer step.made.row
-  where
-    by_row : (a : Answer) → SealRow filled actor (Ok a) old new → IsAnswerFor a (Seal kind)
-    by_row (answers.Sealed id) row = (kind, refl)
-    by_row a row = absurd row
+      by_stop : (stopped : Option Stop) → StepsOr stopped (record { actor = actor; step = asked.Claim seg; answer = Ok answer; buf = buf }) old new → IsAnswerFor answer s
+      by_stop (Some at) step = absurd (let is = step.answer_is in cc)
+      by_stop None step = by_row answer step.made.row
 
-pub answer_fits : (actor : ℕ) (due : Due) (s : SessionState) (answer : Answer) (old new : CoreState) → Asks actor due s (Ok answer) old new → IsAnswerFor answer due
-answer_fits actor Claim s answer old new asks = claim_fits asks.0 actor answer asks.1 old.stop old new asks.3
-answer_fits actor (Seal kind) s answer old new asks = seal_fits kind (open_of s kind) actor answer asks.0 old.stop old new asks.3
-answer_fits actor Nothing s answer old new asks = absurd asks
+  seal_fits : (kind : Kind) → due_in s ≡ Seal kind
+      → StepsOr stop (record { actor = actor; step = asked.Seal (offered_in s kind); answer = Ok answer; buf = buf }) old new → IsAnswerFor answer s
+  seal_fits kind due step = by_stop stop step
+    where
+      by_row : (a : Answer) → SealRow (offered_in s kind) actor (Ok a) old new → IsAnswerFor a s
+      by_row (answers.Sealed id count) row = (kind, due, row.some, row.few)
+      by_row a row = absurd row
+
+      by_stop : (stopped : Option Stop) → StepsOr stopped (record { actor = actor; step = asked.Seal (offered_in s kind); answer = Ok answer; buf = buf }) old new
+          → IsAnswerFor answer s
+      by_stop (Some at) step = absurd (let is = step.answer_is in cc)
+      by_stop None step = by_row answer step.made.row
+
+pub answer_fits : (actor : ℕ) (due : Due) (s : SessionState) (answer : Answer) (old new : CoreState) → due_in s ≡ due → Asks actor due s (Ok answer) old new
+    → IsAnswerFor answer s
+answer_fits actor Claim s answer old new is asks = claim_fits s actor answer asks.1 old.stop old new asks.0 is asks.3
+answer_fits actor (Seal kind) s answer old new is asks = seal_fits s actor answer asks.0 old.stop old new kind is asks.3
+answer_fits actor Nothing s answer old new is asks = absurd asks
 
 -- ---- pauses
 
 pub paused_still : (s : SessionState) → IsPaused s s
 paused_still s = record {
   places = λ h has. ([], subst (λ (placed : List _). HasHistory s (record h { placed = placed })) (sym (append-nil h.placed)) has);
-  keeps = record { count = refl; leaves = refl; nodes = refl; ended = refl; waits = refl; item = λ waits. (refl, refl) };
+  keeps = record { count = refl; ended = refl; unsealed = λ kind. refl; item = λ on. (on, refl, refl) };
 }
 
 pub paused_on : (s t u : SessionState) → IsPaused s t → IsPaused t u → IsPaused s u
@@ -60,17 +71,7 @@ paused_on s t u one two = record {
       let first = one.places h has in
       let second = two.places (record h { placed = h.placed ++ first.0 }) first.1 in
       (first.0 ++ second.0, subst (λ (placed : List _). HasHistory u (record h { placed = placed })) (append_assoc h.placed first.0 second.0) second.1);
-  keeps = record {
-    count = two.keeps.count ∙ one.keeps.count;
-    leaves = two.keeps.leaves ∙ one.keeps.leaves;
-    nodes = two.keeps.nodes ∙ one.keeps.nodes;
-    ended = two.keeps.ended ∙ one.keeps.ended;
-    waits = two.keeps.waits ∙ one.keeps.waits;
-    item = λ waits.
-        let first = one.keeps.item waits in
-        let second = two.keeps.item (one.keeps.waits ∙ waits) in
-        (second.0 ∙ first.0, second.1 ∙ first.1);
-  };
+  keeps = keeps_on s t u one.keeps two.keeps;
 }
 
 -- a pause before a turn is of the turn

@@ -1,5 +1,6 @@
 -- Turns of a session: the steps that it asks for, made by a core (docs/MODEL.md, 'Turns').
 use Rattle.std.specs.Prelude.{◌≡◌, ◌⊎◌, ◌<◌, ℕ, List, [], ◌∷◌, ◌++◌, length, Option, Some, None, Result, Ok, Err}
+use Rattle.std.specs.List.{AllByRecursion}
 use Rattle.actor_parts.specs.declared.step.Answer.{Answer}
 use Rattle.actor_parts.specs.StepValue as asked
 use Rattle.actor_parts.specs.StepValue.{IsStep}
@@ -10,26 +11,26 @@ use Rattle.ingest_session.specs.declared.due.Due.{Due}
 use Rattle.ingest_session.specs.declared.due.Due.TheVariants.{Claim, Seal, Nothing}
 use Rattle.ingest_session.specs.declared.queue.TheConstants.{MOST_WAITING}
 use Rattle.ingest_session.specs.Calls.{IsPushAnswer, IsTaking}
-use Rattle.ingest_session.specs.Due.{due_in, open_of}
-use Rattle.ingest_session.specs.History.{History, HasHistory, Places, answered}
+use Rattle.ingest_session.specs.Due.{due_in, offered_in}
+use Rattle.ingest_session.specs.History.{History, HasHistory, KeepsOpen, Places, answered}
 use Rattle.ingest_session.specs.Moving.{IsOffered}
-use Rattle.ingest_session.specs.Settling.{KeepsOpen, seen}
+use Rattle.ingest_session.specs.Settling.{seen}
 use Rattle.ingest_session.specs.State.{SessionState}
 use Rattle.ingest_session.specs.Told.{IsAnswerFor, IsSettled, told_by}
 use Rattle.store_core.specs.Core.{CoreStep}
 use Rattle.store_core.specs.State.{CoreState, IsRunning}
 
--- What is due was asked for, by an actor: a claim of the item whose turn it is, or a seal of an open container.
+-- What is due was asked for, by an actor: a claim of the item whose turn it is, or a seal of the containers that it is to seal.
 abbrev pub Asks : ℕ → Due → SessionState → Result Answer Refusal → CoreState → CoreState → Type 0
 Asks actor Claim s answer old new =
     (seg : KindSegment) × (buf : List ℕ) × IsOffered s seg
     × CoreStep old (record { actor = actor; step = asked.Claim seg; answer = answer; buf = buf }) new
 Asks actor (Seal kind) s answer old new =
-    (buf : List ℕ) × IsStep (asked.Seal (open_of s kind)) × ((open_of s kind).kind ≡ kind)
-    × CoreStep old (record { actor = actor; step = asked.Seal (open_of s kind); answer = answer; buf = buf }) new
+    (buf : List ℕ) × IsStep (asked.Seal (offered_in s kind)) × AllByRecursion (λ c. c.kind ≡ kind) (offered_in s kind)
+    × CoreStep old (record { actor = actor; step = asked.Seal (offered_in s kind); answer = answer; buf = buf }) new
 Asks actor Nothing s answer old new = ⊥
 
--- Items that need no step may have gone to their place, and nothing else was done.
+-- Items that need no step may have gone to their place, and containers may have been set aside, and nothing else was done.
 pub record IsPaused (s t : SessionState) : Type 0 where
   pub places : Places s t
   pub keeps : KeepsOpen s t
@@ -41,7 +42,7 @@ pub record IsTurn (actor : ℕ) (answer : Answer) (s t : SessionState) (old new 
   pub settled : IsSettled before
   pub asks : Asks actor (due_in before) before (Ok answer) old new
   pub running : IsRunning new
-  pub fits : IsAnswerFor answer (due_in before)
+  pub fits : IsAnswerFor answer before
   pub told : t ≡ told_by answer before
   pub history : (h : History) → HasHistory before h → HasHistory t (answered answer before h)
 

@@ -3,8 +3,6 @@ use Rattle.backup_engine.proofs.storing.sessions_have_laws.Goals as goal
 pub returns : goal.returns
 returns c = record {
   turns = c.steps_have_pieces.ensures.turns;
-  opens = c.steps_have_pieces.ensures.opens;
-  waits = c.seals_were_absent.ensures.waits;
   claims = c.children_come_first.ensures.claims;
   seals = c.children_come_first.ensures.seals;
   counts = c.bytes_are_counted.ensures;

@@ -1,10 +1,10 @@
-use Rattle.std.proofs.Common.{◌≡◌, ◌∙◌, ◌<◌, ℕ, Result, arith}
+use Rattle.std.proofs.Common.{◌≡◌, ◌∙◌, ◌<◌, ℕ, Result, [], arith, refl}
 use Rattle.refusals.specs.declared.refusal.Refusal.{Refusal}
 use Rattle.ingest_session.specs.declared.queue.TheConstants.{MOST_WAITING}
 use Rattle.ingest_session.specs.Settling.{seen}
 use Rattle.session_turns.specs.Turns.{MakesRoom}
 use Rattle.session_turns.proofs.Results.{by_error}
-use Rattle.session_turns.proofs.TurnRuns.{room_then_any, room_then_stop}
+use Rattle.session_turns.proofs.TurnRuns.{paused_still, room_then_any, room_then_stop}
 use Rattle.session_turns.proofs.turns.make_room.Goals as goal
 
 -- the test of the loop
@@ -42,3 +42,6 @@ loop-actor-preserved g c =
           (crowded c.queued.result (seen c.loop-actor.session) c.queued.ensures c.loop-actor-test.true)
           c.in_ok-make_turn.field-0 c.in_ok-make_turn.ensures.turn;
     }
+
+pub loop-actor-init : goal.loop-actor-init
+loop-actor-init g c = record { running = c.requires; ended = refl; count = refl; turns = ([], (paused_still c.args.session.now, refl), tt) }

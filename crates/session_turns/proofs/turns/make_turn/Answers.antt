@@ -6,7 +6,7 @@ use Rattle.ingest_session.specs.Due.{due_in}
 use Rattle.ingest_session.specs.State.{SessionState}
 use Rattle.session_turns.specs.Turns.{TakesTurn, Asks}
 use Rattle.session_turns.proofs.Results.{by_error}
-use Rattle.session_turns.proofs.Told.{told}
+use Rattle.ingest_session.proofs.Staying.{told}
 use Rattle.session_turns.proofs.TurnRuns.{answer_fits}
 use Rattle.session_turns.proofs.turns.make_turn.Goals as goal
 
@@ -40,7 +40,7 @@ pub told-requires-clause-answer : goal.told-requires-clause-answer
 told-requires-clause-answer g c =
     let state = g.C.HasState.state in
     let t = c.due.new.self in
-    answer_fits c.args.actor (due_in t) t c.in_ok-answer.answer (state c.args.core.now) (state c.ask.new.core)
+    answer_fits c.args.actor (due_in t) t c.in_ok-answer.answer (state c.args.core.now) (state c.ask.new.core) refl
     (subst (λ (d : _). Asks c.args.actor d t (Ok c.in_ok-answer.answer) (state c.args.core.now) (state c.ask.new.core)) c.in_ok-due.ensures.due c.in_ok-answer.ensures.asks)
 
 pub returns-clause-turn : goal.returns-clause-turn
@@ -55,7 +55,7 @@ returns-clause-turn g c =
       settled = c.in_ok-due.ensures.ok;
       asks = asks;
       running = c.in_ok-answer.ensures.running;
-      fits = answer_fits c.args.actor (due_in t) t c.in_ok-answer.answer (state c.args.core.now) (state c.ask.new.core) asks;
+      fits = answer_fits c.args.actor (due_in t) t c.in_ok-answer.answer (state c.args.core.now) (state c.ask.new.core) refl asks;
       told = c.told.ensures.told;
       history = c.told.ensures.history;
     }

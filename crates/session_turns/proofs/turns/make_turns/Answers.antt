@@ -1,8 +1,8 @@
-use Rattle.std.proofs.Common.{◌∙◌, Result}
+use Rattle.std.proofs.Common.{◌∙◌, Result, [], refl}
 use Rattle.refusals.specs.declared.refusal.Refusal.{Refusal}
 use Rattle.session_turns.specs.Turns.{TakesTurns}
 use Rattle.session_turns.proofs.Results.{by_error}
-use Rattle.session_turns.proofs.TurnRuns.{turns_then_any, turns_then_stop}
+use Rattle.session_turns.proofs.TurnRuns.{paused_still, turns_then_any, turns_then_stop}
 use Rattle.session_turns.proofs.turns.make_turns.Goals as goal
 
 pub returns-in_err-make_turn-clause-turns : goal.returns-in_err-make_turn-clause-turns
@@ -32,3 +32,6 @@ loop-preserved g c =
           (Unit {0}) tt tt c.args.session.now c.loop.session c.make_turn.new.session c.args.core.now c.loop.core c.make_turn.new.core c.loop.invariant.turns
           c.in_ok-make_turn.field-0 c.in_ok-make_turn.ensures.turn;
     }
+
+pub loop-init : goal.loop-init
+loop-init g c = record { running = c.requires; ended = refl; count = refl; turns = ([], (paused_still c.args.session.now, refl)) }

@@ -1,6 +1,7 @@
 //! The rows that call a codec.
 use crate::containers::{container, nodes};
 use crate::cutting::{cut, cutter};
+use crate::loads::load;
 use crate::nodes::{node, tree, walk};
 use crate::places::index;
 use crate::registry::{names, replay};
@@ -36,6 +37,7 @@ fn codec_answer(alloc: Global, row: &str) -> Result<String, Fault> {
         "session" => session(alloc, rest),
         "source" => source(alloc, rest),
         "sink" => sink(alloc, rest),
+        "load" => load(alloc, rest),
         _ => plain_answer(alloc, codec, &words_of(alloc, rest)?),
     }
 }

@@ -1,10 +1,12 @@
-//! Runs rows of calls of the parts that need no disk: cutters, containers, nodes, names, sessions, an index and streams. Each row has after
+//! Runs rows of calls of the parts that need no disk: cutters, containers, nodes, names, sessions, an index, streams
+//! and generated files. Each row has after
 //! ` => ` what is to come of it. Standard input names the transcripts, one a line; docs/FORMAT.md is what the rows are written from.
 #![tactic(auto)]
 
 mod codecs;
 mod containers;
 mod cutting;
+mod loads;
 mod nodes;
 mod places;
 mod registry;

@@ -5,7 +5,7 @@ ghost use Rattle.ingest_session.specs.Told.{IsSettled, IsAnswerFor};
 
 use crate::nodes::add_top;
 use actor_parts::Answer;
-use container_meta::{Kind, Seg};
+use container_meta::{Kind, OpenContainer, Seg};
 use ingest_session::{Due, Session};
 use merkle_file::Top;
 use refusals::{PartKind, Refusal};
@@ -20,12 +20,14 @@ struct Steps {
     /// How many of these were taken, and the last of them.
     taken: usize,
     is_held: bool,
+    /// A seal seals the first container alone.
+    alone: bool,
     /// The sort of the last step of this call.
     sort: &'static str,
 }
 
 /// `ANSWER .. : CALL ; ..`: calls of one session. Its claims are answered `absent` or `held`, as these words say in turn,
-/// the last of them on and on, and its seals are answered as sealed.
+/// the last of them on and on. Its seals are answered as sealed: all that are offered, or the first where there is the word `one`.
 pub(crate) fn session(alloc: Global, row: &str) -> Result<String, Fault> {
     let (words, chain) = row.split_once(" : ").ok_or(Fault::Line)?;
     let mut session = Session::new(alloc)?;
@@ -43,11 +45,12 @@ fn calls(alloc: Global, session: &mut Session, words: &str, chain: &str) -> Resu
 }
 
 fn steps_of(alloc: Global, words: &str) -> Result<Steps, Fault> {
-    let held = held_of(alloc, &words_of(alloc, words)?)?;
+    let words = words_of(alloc, words)?;
     Ok(Steps {
-        held,
+        held: held_of(alloc, &words)?,
         taken: 0,
         is_held: false,
+        alone: words.iter().any(|word| *word == "one"),
         sort: "",
     })
 }
@@ -58,6 +61,7 @@ fn held_of(alloc: Global, words: &[&str]) -> Result<Vec<bool>, Fault> {
         held.push(match *word {
             "absent" => false,
             "held" => true,
+            "one" => continue,
             _ => return Err(Fault::Line),
         })?;
     }
@@ -196,33 +200,36 @@ impl Steps {
         requires settled { IsSettled session.now }
         requires due { due ≡ due_in session.now }
         requires some { due ≢ Due.Nothing }
-        ensures { IsAnswerFor result (due_in session.now) }
+        ensures { IsAnswerFor result session.now }
     {
         match due {
             Due::Claim => {
                 self.add_claim(session.offered(), text);
-                self.next_answer()
+                if self.next_is_held() {
+                    Answer::Held
+                } else {
+                    Answer::Absent
+                }
             }
             Due::Seal(kind) => {
-                self.add_seal(kind, session.filled(kind).len(), text);
-                Answer::Sealed { id: 1 }
+                let filled = session.filled(kind);
+                self.add_seal(kind, filled, text);
+                Answer::Sealed {
+                    id: 1,
+                    count: if self.alone { 1 } else { filled.len() },
+                }
             }
             Due::Nothing => unreachable!(),
         }
     }
 
-    fn next_answer(&mut self) -> Answer
-        ensures { IsAnswerFor result Due.Claim }
-    {
+    /// Whether the next claim is answered as held.
+    fn next_is_held(&mut self) -> bool {
         if let Some(is_held) = self.held.get(self.taken) {
             self.is_held = *is_held;
             self.taken = self.taken.saturating_add(1);
         }
-        if self.is_held {
-            Answer::Held
-        } else {
-            Answer::Absent
-        }
+        self.is_held
     }
 
     /// A claim of data has its length, and one of a node its level.
@@ -233,22 +240,37 @@ impl Steps {
         }
     }
 
-    fn add_seal(&mut self, kind: Kind, count: usize, text: &mut Text) {
-        match kind {
-            Kind::Leaf => self.add("seal data", count as u64, text),
-            Kind::Tree => self.add("seal tree", count as u64, text),
+    /// A seal has how many segments each container has.
+    fn add_seal(&mut self, kind: Kind, filled: &[OpenContainer], text: &mut Text) {
+        self.begin(
+            match kind {
+                Kind::Leaf => "seal data",
+                Kind::Tree => "seal tree",
+            },
+            text,
+        );
+        let mut mark = " ";
+        for container in filled {
+            text.add(mark);
+            text.add_number(container.len() as u64);
+            mark = "+";
         }
     }
 
     /// Tells a step; of one of the same sort as the last the number alone.
     fn add(&mut self, sort: &'static str, count: u64, text: &mut Text) {
+        self.begin(sort, text);
+        text.add(" ");
+        text.add_number(count);
+    }
+
+    /// Tells the sort of a step, where that of the last was another.
+    fn begin(&mut self, sort: &'static str, text: &mut Text) {
         if self.sort != sort {
             text.add(if self.sort.is_empty() { "" } else { ", " });
             text.add(sort);
             self.sort = sort;
         }
-        text.add(" ");
-        text.add_number(count);
     }
 
     fn end(&self, text: &mut Text) {

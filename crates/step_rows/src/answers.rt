@@ -24,7 +24,7 @@ fn done_text(alloc: Global, answer: &Answer, buf: &[u8]) -> Result<String, Alloc
         Answer::Begun => "begun".to_string(alloc),
         Answer::Held => "held".to_string(alloc),
         Answer::Absent => "absent".to_string(alloc),
-        Answer::Sealed { id } => format!(in alloc; "sealed {id}"),
+        Answer::Sealed { id, .. } => format!(in alloc; "sealed {id}"),
         Answer::Committed { sequence } => format!(in alloc; "committed {sequence}"),
         Answer::Aborted => "aborted".to_string(alloc),
         Answer::Opened { length } => format!(in alloc; "opened {length}"),

@@ -7,6 +7,7 @@ use crate::words::actor_of;
 use actor_parts::{Actor, Percent, Step};
 use dd_disk::Disk;
 use std::alloc::Global;
+use std::slice::from_ref;
 use store_core::Core;
 use summary_vector::NoSummary;
 use transcripts::{Fault, words_of};
@@ -114,7 +115,13 @@ fn seal<D: Disk>(
     if container.is_empty() {
         return Err(Fault::Line);
     }
-    Ok(core.make(alloc, actor, Step::Seal { filled: container })?)
+    Ok(core.make(
+        alloc,
+        actor,
+        Step::Seal {
+            filled: from_ref(container),
+        },
+    )?)
 }
 
 // A container of the segments of some names, of the first one's kind.

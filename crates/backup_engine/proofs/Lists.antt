@@ -1,7 +1,7 @@
 -- What holds of calls one after the other, from what each keeps of the map that it finds.
 use Rattle.backup_engine.proofs.Prelude.{DoesCommand, ◌≡◌, ◌⊎◌, inl, inr, ℕ, zero, suc, ◌+◌, List, [], ◌∷◌, ◌++◌, Option, Some, None, refl, sym, ◌∙◌, subst, arith, AllByRecursion, KnownWith, DiskView, IsDurable, OnlyReads, Refusal, Memory, NoFile, BadName, TooLong, Full, Clash, WrongPart, DiskRead, DiskWrite, Corrupt, Missing, Numbers, NotAStore, Version, Damaged, AlreadyStore, WrongSize, Words, Sink, Script, Refused, HasNoCollisions, ByteSet, IsIn, IsOf, OpensAs, Stored, Store, Replied, Found, IsOfFound, MayStand, stored_in, Formats, CommandLine, Format, Ingest, Restore, Collect, TableLine, Single, Check, RefusedByFiles, RunsByFiles, status_by, SinceStart, Does, Promise, Call}
 use Rattle.std.proofs.Common.{replicate}
-use Rattle.refusals.specs.declared.refusal.Refusal.TheVariants.{TooMany, Collecting, NotCollecting, Stopped, Unpinned}
+use Rattle.refusals.specs.declared.refusal.Refusal.TheVariants.{TooMany, Collecting, NotCollecting, Stopped, Unpinned, NoActor}
 use Rattle.reply_text.specs.declared.ending.Ending.{Ending}
 use Rattle.reply_text.specs.declared.ending.Ending.TheVariants.{Source, Line}
 use Rattle.reply_text.specs.Table.{status_of_refusal}
@@ -387,6 +387,7 @@ refused (Damaged at why) = λ is. cc
 refused (Unpinned key) = λ is. cc
 refused AlreadyStore = λ is. cc
 refused (WrongSize want got) = λ is. cc
+refused NoActor = λ is. cc
 
 done_at_zero : (ending : Option Ending) → status_by ending ≡ 0 → ending ≡ None
 done_at_zero None is = refl

@@ -128,6 +128,8 @@ pub enum Refusal {
         want: u64,
         got: u64,
     },
+    /// 22: all numbers of actors were given out to passes of a shared store.
+    NoActor,
 }
 
 impl From<AllocError> for Refusal {

@@ -13,7 +13,7 @@ use Rattle.refusals.specs.declared.refusal.Phase.TheVariants.{Mark, Filter, Sele
 use Rattle.disk_format.specs.declared.why.Why.{Why}
 use Rattle.disk_format.specs.declared.why.Why.TheVariants.{Digest, Field}
 use Rattle.refusals.specs.declared.refusal.Refusal.{Refusal}
-use Rattle.refusals.specs.declared.refusal.Refusal.TheVariants.{Memory, NoFile, BadName, TooMany, TooLong, Full, Clash, WrongPart, Collecting, NotCollecting, DiskRead, DiskWrite, Stopped, Corrupt, Missing, Numbers, NotAStore, Version, Damaged, Unpinned, AlreadyStore, WrongSize}
+use Rattle.refusals.specs.declared.refusal.Refusal.TheVariants.{Memory, NoFile, BadName, TooMany, TooLong, Full, Clash, WrongPart, Collecting, NotCollecting, DiskRead, DiskWrite, Stopped, Corrupt, Missing, Numbers, NotAStore, Version, Damaged, Unpinned, AlreadyStore, WrongSize, NoActor}
 use Rattle.inspection.specs.declared.damage.Damage.{Damage}
 use Rattle.inspection.specs.declared.damage.Damage.TheVariants as found
 use Rattle.reply_text.specs.declared.ending.Ending.{Ending}
@@ -103,6 +103,7 @@ refusal_text (Damaged at why) = codes "18 damaged " ++ decimal at ++ codes " " +
 refusal_text (Unpinned key) = codes "19 unpinned " ++ encode_lower key
 refusal_text AlreadyStore = codes "20 alreadystore"
 refusal_text (WrongSize want got) = codes "21 wrongsize " ++ decimal want ++ codes " " ++ decimal got
+refusal_text NoActor = codes "22 noactor"
 
 -- how a command that was not done ended
 unfoldable pub ending_text : Ending → List ℕ

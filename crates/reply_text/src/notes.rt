@@ -108,6 +108,7 @@ fn write_refusal<Q: Sink>(notes: &mut Q, refusal: &Refusal) -> Result<(), SinkFa
         Refusal::Unpinned { key } => write_unpinned(notes, key),
         Refusal::AlreadyStore => write_pieces(notes, &[b"fault 20 alreadystore\n"]),
         Refusal::WrongSize { want, got } => write_wrong_size(notes, *want, *got),
+        Refusal::NoActor => write_pieces(notes, &[b"fault 22 noactor\n"]),
     }
 }
 

@@ -44,5 +44,6 @@ fn status_of_refusal(refusal: &Refusal) -> u8
         Refusal::Unpinned { .. } => 3,
         Refusal::AlreadyStore => 3,
         Refusal::WrongSize { .. } => 3,
+        Refusal::NoActor => 3,
     }
 }

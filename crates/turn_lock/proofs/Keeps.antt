@@ -20,6 +20,10 @@ use Rattle.turn_lock.specs.Plays.{Seated, waiting, in_turn, idle, Draws, IsServe
 use Rattle.turn_lock.proofs.Totals.{total_set, total_snoc, total_le, total_one, total_two, each_set, each_last, at_below, times_append}
 use Rattle.turn_lock.proofs.Histories.{last_snoc, history_snoc, turns_append, follows_all, follows_append, follows_both, follows_shorter, comparable}
 
+greater_if : (b : Bool) (x y most : ℕ) → x ≤ most → y ≤ most → (if b then y else x) ≤ most
+greater_if true x y most l k = k
+greater_if false x y most l k = l
+
 module _ {C : Type 0} where
   -- where a ticket stands
   ticket_range : (h : Home C) (log : List (Turn C)) (drawn served : ℕ) (turn : Option ℕ) (p : ℕ) (v : View C) (st : Stage C) (n : ℕ)
@@ -120,6 +124,7 @@ module _ {C : Type 0} (makes : ℕ → C → C → Type 0) (lines : C → ℕ) (
                 beside = none_beside r.log;
                 within = (λ x l. absurd (omega arith));
                 stands = (stands, omega arith, omega arith, number);
+                counted = fit.counted;
               })
               (λ q u other e. let f = r.each q u e in record {
                 opened = f.opened;
@@ -127,6 +132,7 @@ module _ {C : Type 0} (makes : ℕ → C → C → Type 0) (lines : C → ℕ) (
                 beside = f.beside;
                 within = f.within;
                 stands = more_drawn _ _ _ _ _ _ u u.stage f.stands;
+                counted = f.counted;
               });
         },
         (r.drawn, sym (ap (λ (ws : List ℕ). get_or ws 0 0) r.words_are), refl),
@@ -170,9 +176,9 @@ module _ {C : Type 0} (makes : ℕ → C → C → Type 0) (lines : C → ℕ) (
       let theirs = holder_ticket _ _ _ _ _ _ h.0 h.0.stage (r.each p h.0 h.1).stands t in
       absurd (stands (t ∙ ap Some (r.apart p id r.served h.0 v h.1 at theirs mine)))
 
-  pub looks_at : (slots id n : ℕ) (o : Option C) (seen : List (Turn C)) (beside : Known C) (numbers : List ℕ)
-      → Allows Rule slots id (view_at o seen beside numbers (Waits n), []) 1 (λ k. k) (Looks makes (view_at o seen beside numbers (Waits n), []))
-  looks_at slots id n o seen beside numbers s r _ at _ = let v : View C = view_at o seen beside numbers (Waits n) in dite (ℕ_discrete (get_or s.words 1 0) (n % 2 ^ 64))
+  pub looks_at : (slots id n : ℕ) (o : Option C) (seen : List (Turn C)) (beside : Known C) (numbers : List ℕ) (g : ℕ)
+      → Allows Rule slots id (view_at o seen beside numbers (Waits n) g, []) 1 (λ k. k) (Looks makes (view_at o seen beside numbers (Waits n) g, []))
+  looks_at slots id n o seen beside numbers g s r _ at _ = let v : View C = view_at o seen beside numbers (Waits n) g in dite (ℕ_discrete (get_or s.words 1 0) (n % 2 ^ 64))
       (λ e.
       let fit = r.each id v at in
       let stands = fit.stands in
@@ -213,6 +219,7 @@ module _ {C : Type 0} (makes : ℕ → C → C → Type 0) (lines : C → ℕ) (
                 beside = none_beside r.log;
                 within = (λ x l. absurd (omega arith));
                 stands = (refl, sym now, omega arith, stands.3, refl, refl);
+                counted = omega arith;
               })
               (λ q u other at_q. let f = r.each q u at_q in record {
                 opened = f.opened;
@@ -220,6 +227,7 @@ module _ {C : Type 0} (makes : ℕ → C → C → Type 0) (lines : C → ℕ) (
                 beside = f.beside;
                 within = f.within;
                 stands = others_turn _ _ _ _ _ _ _ _ _ _ u u.stage (nowhere r.turn q free) (other_place id q other) (λ m k l. l) f.stands;
+                counted = f.counted;
               });
         },
         subst (λ b. MatchBool b (IsServed makes v n (w, (0, Some h) ∷ [])) (◌≡◌ {A = Seated C} (w, (0, Some h) ∷ []) (v, []))) (sym (eq-eqb _ _ e))
@@ -232,6 +240,7 @@ module _ {C : Type 0} (makes : ℕ → C → C → Type 0) (lines : C → ℕ) (
                 legal = λ first is. (subst (λ z. IsHistory makes z r.log) (sym (fit.opened first is)) r.legal, ap (λ z. last_of z r.log) (sym (fit.opened first is)));
                 below = λ x. (let one = total_one (λ (u : View C). times x u.numbers) s.views id v at in let k = r.once x in omega arith);
                 unused = r.unused;
+                counted = fit.counted;
               };
             }),
       ))
@@ -276,13 +285,13 @@ module _ {C : Type 0} (makes : ℕ → C → C → Type 0) (lines : C → ℕ) (
   none_of : (x by : ℕ) (value : C) → by ≢ x → turns_by x (turn_of by value ∷ []) ≡ 0
   none_of x by value ne = ap (λ b. (if b then 1 else 0) + 0) (ne_eqb by x ne)
 
-  pub posts_at : (slots id n by count : ℕ) (others : List ℕ) (o : Option C) (seen : List (Turn C)) (beside : Known C) (found left : Home C)
+  pub posts_at : (slots id n by count : ℕ) (others : List ℕ) (o : Option C) (seen : List (Turn C)) (beside : Known C) (g : ℕ) (found left : Home C)
       → makes by found.value left.value → left.given ≡ found.given → count ≡ lines left.value
-      → let m : Seated C = (view_at o seen beside (by ∷ others) (InTurn n found), (0, Some left) ∷ []) in Allows Rule slots id m 2 (λ _. count) (λ _. Posts m count)
-  posts_at slots id n by count others o seen beside found left made given counted s r _ at _ =
-      let v : View C = view_at o seen beside (by ∷ others) (InTurn n found) in
+      → let m : Seated C = (view_at o seen beside (by ∷ others) (InTurn n found) g, (0, Some left) ∷ []) in Allows Rule slots id m 2 (λ _. count) (λ _. Posts m count)
+  posts_at slots id n by count others o seen beside g found left made given counted s r _ at _ =
+      let v : View C = view_at o seen beside (by ∷ others) (InTurn n found) g in
       let e : Turn C = turn_of by left.value in
-      let w : View C = in_turn v (seen ++ e ∷ []) n left in
+      let w : View C = view_at o (seen ++ e ∷ []) nothing (by ∷ others) (InTurn n left) g in
       let fit = r.each id v at in
       let stands = fit.stands in
       let h : Home C = home_of r.given (value_of r.log) in
@@ -320,6 +329,7 @@ module _ {C : Type 0} (makes : ℕ → C → C → Type 0) (lines : C → ℕ) (
                 beside = none_beside log;
                 within = (λ x l. absurd (omega arith));
                 stands = (refl, stands.1, stands.2, stands.3, here, ap (λ z. z ++ e ∷ []) stands.5);
+                counted = fit.counted;
               })
               (λ q u other at_q. let f = r.each q u at_q in record {
                 opened = f.opened;
@@ -329,15 +339,16 @@ module _ {C : Type 0} (makes : ℕ → C → C → Type 0) (lines : C → ℕ) (
                     (same : by ≡ x). alone s r id q v u by other at at_q (has_own by others) (subst (λ y. 1 ≤ times y u.numbers) (sym same) (f.within x some_x)))) f.beside;
                 within = f.within;
                 stands = others_turn _ _ _ _ _ _ _ _ _ _ u u.stage (λ t. other_place id q other (sym stands.0 ∙ t)) (other_place id q other) (λ m k l. l) f.stands;
+                counted = f.counted;
               });
         },
         refl,
       )
 
-  pub passes_at : (slots id n : ℕ) (o : Option C) (seen : List (Turn C)) (beside : Known C) (numbers : List ℕ) (found : Home C)
-      → let m : Seated C = (view_at o seen beside numbers (InTurn n found), (0, Some found) ∷ []) in Allows Rule slots id m 1 (λ k. (k + 1) % 2 ^ 64) (PassesOn m)
-  passes_at slots id n o seen beside numbers found s r _ at _ =
-      let v : View C = view_at o seen beside numbers (InTurn n found) in
+  pub passes_at : (slots id n : ℕ) (o : Option C) (seen : List (Turn C)) (beside : Known C) (numbers : List ℕ) (g : ℕ) (found : Home C)
+      → let m : Seated C = (view_at o seen beside numbers (InTurn n found) g, (0, Some found) ∷ []) in Allows Rule slots id m 1 (λ k. (k + 1) % 2 ^ 64) (PassesOn m)
+  passes_at slots id n o seen beside numbers g found s r _ at _ =
+      let v : View C = view_at o seen beside numbers (InTurn n found) g in
       let w : View C = idle v in
       let fit = r.each id v at in
       let stands = fit.stands in
@@ -366,7 +377,7 @@ module _ {C : Type 0} (makes : ℕ → C → C → Type 0) (lines : C → ℕ) (
           unused = r.unused;
           apart = apart_kept s.views id v w r.apart at (λ m k. absurd k);
           each = each_set (Fits opening h r.log r.drawn (r.served + 1) None) s.views id w
-              (record { opened = fit.opened; follows = fit.follows; beside = none_beside r.log; within = (λ x l. absurd (omega arith)); stands = (λ t. absurd (cc)) })
+              (record { opened = fit.opened; follows = fit.follows; beside = none_beside r.log; within = (λ x l. absurd (omega arith)); stands = (λ t. absurd (cc)); counted = fit.counted })
               (λ q u other at_q. let f = r.each q u at_q in record {
                 opened = f.opened;
                 follows = f.follows;
@@ -376,6 +387,7 @@ module _ {C : Type 0} (makes : ℕ → C → C → Type 0) (lines : C → ℕ) (
                     (λ m k l. dite (ℕ_discrete m r.served)
                     (λ same. absurd (other (r.apart q id m u v at_q at k (stands.1 ∙ sym same))))
                     (λ ne. omega arith)) f.stands;
+                counted = f.counted;
               });
         },
         refl,
@@ -391,13 +403,13 @@ module _ {C : Type 0} (makes : ℕ → C → C → Type 0) (lines : C → ℕ) (
       (λ no. let a = le-ltb x (g + 1) (omega arith) in let b = le-ltb x g (omega arith) in let c = ne_eqb g x ne in
       ap (λ t. if t then 1 else 0) a ∙ sym (ap (λ t. (if t then 1 else 0) + (if g == x then 1 else 0)) b ∙ ap (λ t. 0 + (if t then 1 else 0)) c)))
 
-  pub gives_at : (slots id n by count : ℕ) (others : List ℕ) (o : Option C) (seen : List (Turn C)) (beside : Known C) (found left : Home C)
+  pub gives_at : (slots id n by count : ℕ) (others : List ℕ) (o : Option C) (seen : List (Turn C)) (beside : Known C) (g : ℕ) (found left : Home C)
       → left.value ≡ found.value → left.given ≡ found.given + 1 → found.given < 64 → count ≡ lines left.value
-      → let m : Seated C = (view_at o seen beside (by ∷ others) (InTurn n found), (0, Some left) ∷ []) in Allows Rule slots id m 2 (λ _. count) (λ _. Gives m count)
-  gives_at slots id n by count others o seen beside found left same_value given few counted s r _ at _ =
-      let v : View C = view_at o seen beside (by ∷ others) (InTurn n found) in
+      → let m : Seated C = (view_at o seen beside (by ∷ others) (InTurn n found) g, (0, Some left) ∷ []) in Allows Rule slots id m 2 (λ _. count) (λ _. Gives m count)
+  gives_at slots id n by count others o seen beside g found left same_value given few counted s r _ at _ =
+      let v : View C = view_at o seen beside (by ∷ others) (InTurn n found) g in
       let number : ℕ = left.given - 1 in
-      let w : View C = view_at o seen nothing (by ∷ number ∷ others) (InTurn n left) in
+      let w : View C = view_at o seen nothing (by ∷ number ∷ others) (InTurn n left) left.given in
       let fit = r.each id v at in
       let stands = fit.stands in
       let h : Home C = home_of r.given (value_of r.log) in
@@ -435,6 +447,7 @@ module _ {C : Type 0} (makes : ℕ → C → C → Type 0) (lines : C → ℕ) (
                 beside = none_beside r.log;
                 within = (λ x l. absurd (omega arith));
                 stands = (refl, stands.1, stands.2, omega arith, here, stands.5);
+                counted = omega arith;
               })
               (λ q u other at_q. let f = r.each q u at_q in record {
                 opened = f.opened;
@@ -442,6 +455,7 @@ module _ {C : Type 0} (makes : ℕ → C → C → Type 0) (lines : C → ℕ) (
                 beside = f.beside;
                 within = f.within;
                 stands = others_turn _ _ _ _ _ _ _ _ _ _ u u.stage (λ t. other_place id q other (sym stands.0 ∙ t)) (other_place id q other) (λ m k l. l) f.stands;
+                counted = (let c = f.counted in omega arith);
               });
         },
         (refl, ap (turns_by number) stands.5 ∙ r.unused number (omega arith)),
@@ -453,10 +467,10 @@ module _ {C : Type 0} (makes : ℕ → C → C → Type 0) (lines : C → ℕ) (
       (λ (a : w ≡ v). absurd (none_has n (subst (λ (x : View C). HasTicket n x.stage) (sym a) tv)))
       (at_snoc views w v p ep)
 
-  pub splits_at : (id x y : ℕ) (ys : List ℕ) (o : Option C) (seen : List (Turn C)) (beside : Known C)
-      → let v : View C = view_at o seen beside (x ∷ y ∷ ys) Idle in Splits Rule id v (left v) (right v)
-  splits_at id x y ys o seen beside s r at =
-      let v : View C = view_at o seen beside (x ∷ y ∷ ys) Idle in
+  pub splits_at : (id x y : ℕ) (ys : List ℕ) (o : Option C) (seen : List (Turn C)) (beside : Known C) (g : ℕ)
+      → let v : View C = view_at o seen beside (x ∷ y ∷ ys) Idle g in Splits Rule id v (left v) (right v)
+  splits_at id x y ys o seen beside g s r at =
+      let v : View C = view_at o seen beside (x ∷ y ∷ ys) Idle g in
       let w : View C = left v in
       let z : View C = right v in
       let fit = r.each id v at in
@@ -486,6 +500,7 @@ module _ {C : Type 0} (makes : ℕ → C → C → Type 0) (lines : C → ℕ) (
               beside = none_beside r.log;
               within = (λ x l. absurd (omega arith));
               stands = λ t. let k = r.holder (length old) t in let b = at_below s.views (length old) k.0 k.1 in absurd (omega (arith, length-set s.views id w));
+              counted = fit.counted;
             })
             (each_set P s.views id w
             (record {
@@ -494,15 +509,16 @@ module _ {C : Type 0} (makes : ℕ → C → C → Type 0) (lines : C → ℕ) (
               beside = none_beside r.log;
               within = (λ x l. absurd (omega arith));
               stands = fit.stands;
+              counted = fit.counted;
             })
             (λ q u other at_q. r.each q u at_q));
       }
 
-  pub joins_at : (id other : ℕ) (o o' : Option C) (seen seen' : List (Turn C)) (beside beside' : Known C) (numbers numbers' : List ℕ)
-      → let v : View C = view_at o seen beside numbers Idle in let w : View C = view_at o' seen' beside' numbers' Idle in Joins Rule id v other w (both v w) spent
-  joins_at id other o o' seen seen' beside beside' numbers numbers' s r at apart there =
-      let v : View C = view_at o seen beside numbers Idle in
-      let w : View C = view_at o' seen' beside' numbers' Idle in
+  pub joins_at : (id other : ℕ) (o o' : Option C) (seen seen' : List (Turn C)) (beside beside' : Known C) (numbers numbers' : List ℕ) (g g' : ℕ)
+      → let v : View C = view_at o seen beside numbers Idle g in let w : View C = view_at o' seen' beside' numbers' Idle g' in Joins Rule id v other w (both v w) spent
+  joins_at id other o o' seen seen' beside beside' numbers numbers' g g' s r at apart there =
+      let v : View C = view_at o seen beside numbers Idle g in
+      let w : View C = view_at o' seen' beside' numbers' Idle g' in
       let b : View C = both v w in
       let at_other : get_elem? s.views other ≡ some w = sym (set_else s.views id other b apart) ∙ there in
       let fit = r.each id v at in
@@ -538,6 +554,7 @@ module _ {C : Type 0} (makes : ℕ → C → C → Type 0) (lines : C → ℕ) (
               beside = none_beside r.log;
               within = (λ x l. absurd (omega arith));
               stands = gone.stands;
+              counted = omega arith;
             })
             (λ q u ne at_q. each_set P s.views id b
             (record {
@@ -546,6 +563,7 @@ module _ {C : Type 0} (makes : ℕ → C → C → Type 0) (lines : C → ℕ) (
               beside = follows_shorter v w r.log fit.follows gone.follows;
               within = within_both v w;
               stands = fit.stands;
+              counted = greater_if (nat_le g g') g g' r.given fit.counted gone.counted;
             })
             (λ p y _ at_p. r.each p y at_p) q u at_q);
       }
@@ -561,7 +579,12 @@ module _ {C : Type 0} (makes : ℕ → C → C → Type 0) (lines : C → ℕ) (
           homes = s.homes;
           views = z.1;
         }) (λ i. (sym (set-get_or s.words 0 0) i, sym (set_again s.views id me.0 at) i)) r,
-        (refl, comparable me.0.beside.numbers me.0.beside.seen me.0.seen r.log fit.beside (fit.follows.0, fit.follows.1)),
+        (
+          refl,
+          comparable me.0.beside.numbers me.0.beside.seen me.0.seen r.log fit.beside (fit.follows.0, fit.follows.1),
+          (let one = total_one numbers_of s.views id me.0 at in let all = r.numbers in let few = r.few in omega arith),
+          λ x. let one = total_one (λ (u : View C). times x u.numbers) s.views id me.0 at in let k = r.once x in let most = unit_most (nat_lt x r.given) in omega arith,
+        ),
       )
 
   abbrev get_opening : Option C → C
@@ -603,6 +626,7 @@ module _ {C : Type 0} (makes : ℕ → C → C → Type 0) (lines : C → ℕ) (
         beside = none_beside [];
         within = (λ x l. absurd (omega arith));
         stands = λ t. absurd (cc);
+        counted = omega arith;
       })
       one (suc p) v e = absurd (some-ne-none v (sym e))
 
@@ -610,8 +634,8 @@ module _ {C : Type 0} (makes : ℕ → C → C → Type 0) (lines : C → ℕ) (
 
   pub looks : (slots id : ℕ) (me : Seated C) (n : ℕ) → me.0.stage ≡ Waits n → me.1 ≡ [] → Allows Rule slots id me 1 (λ k. k) (Looks makes me)
   looks slots id me n waits none_out =
-      subst (λ (m : Seated C). Allows Rule slots id m 1 (λ k. k) (Looks makes m)) (λ i. (view_at me.0.opening me.0.seen me.0.beside me.0.numbers (sym waits i), sym none_out i))
-      (looks_at slots id n me.0.opening me.0.seen me.0.beside me.0.numbers)
+      subst (λ (m : Seated C). Allows Rule slots id m 1 (λ k. k) (Looks makes m)) (λ i. (view_at me.0.opening me.0.seen me.0.beside me.0.numbers (sym waits i) me.0.given, sym none_out i))
+      (looks_at slots id n me.0.opening me.0.seen me.0.beside me.0.numbers me.0.given)
 
   pub posts : (slots id n by count : ℕ) (others : List ℕ) (found left : Home C) (me : Seated C) → me.0.stage ≡ InTurn n found → me.0.numbers ≡ by ∷ others
       → me.1 ≡ (0, Some left) ∷ []
@@ -619,10 +643,10 @@ module _ {C : Type 0} (makes : ℕ → C → C → Type 0) (lines : C → ℕ) (
   posts slots id n by count others found left me stage numbers out made given counted =
       subst (λ (m : Seated C). Allows Rule slots id m 2 (λ _. count) (λ _. Posts m count)) (λ i. (
         view_at me.0.opening me.0.seen me.0.beside (sym numbers i)
-            (sym stage i),
+            (sym stage i) me.0.given,
         sym out i,
       ))
-      (posts_at slots id n by count others me.0.opening me.0.seen me.0.beside found left made given counted)
+      (posts_at slots id n by count others me.0.opening me.0.seen me.0.beside me.0.given found left made given counted)
 
   pub gives_number : (slots id n by count : ℕ) (others : List ℕ) (found left : Home C) (me : Seated C) → me.0.stage ≡ InTurn n found → me.0.numbers ≡ by ∷ others
       → me.1 ≡ (0, Some left) ∷ []
@@ -630,28 +654,28 @@ module _ {C : Type 0} (makes : ℕ → C → C → Type 0) (lines : C → ℕ) (
   gives_number slots id n by count others found left me stage numbers out same given few counted =
       subst (λ (m : Seated C). Allows Rule slots id m 2 (λ _. count) (λ _. Gives m count)) (λ i. (
         view_at me.0.opening me.0.seen me.0.beside (sym numbers i)
-            (sym stage i),
+            (sym stage i) me.0.given,
         sym out i,
       ))
-      (gives_at slots id n by count others me.0.opening me.0.seen me.0.beside found left same given few counted)
+      (gives_at slots id n by count others me.0.opening me.0.seen me.0.beside me.0.given found left same given few counted)
 
   pub passes : (slots id n : ℕ) (found : Home C) (me : Seated C) → me.0.stage ≡ InTurn n found → me.1 ≡ (0, Some found) ∷ []
       → Allows Rule slots id me 1 (λ k. (k + 1) % 2 ^ 64) (PassesOn me)
   passes slots id n found me stage out =
       subst (λ (m : Seated C). Allows Rule slots id m 1 (λ k. (k + 1) % 2 ^ 64) (PassesOn m)) (λ i. (
         view_at me.0.opening me.0.seen me.0.beside me.0.numbers
-            (sym stage i),
+            (sym stage i) me.0.given,
         sym out i,
       ))
-      (passes_at slots id n me.0.opening me.0.seen me.0.beside me.0.numbers found)
+      (passes_at slots id n me.0.opening me.0.seen me.0.beside me.0.numbers me.0.given found)
 
   pub splits : (id x y : ℕ) (ys : List ℕ) (v : View C) → v.stage ≡ Idle → v.numbers ≡ x ∷ y ∷ ys → Splits Rule id v (left v) (right v)
   splits id x y ys v stage numbers =
-      subst (λ (u : View C). Splits Rule id u (left u) (right u)) (λ i. view_at v.opening v.seen v.beside (sym numbers i) (sym stage i))
-      (splits_at id x y ys v.opening v.seen v.beside)
+      subst (λ (u : View C). Splits Rule id u (left u) (right u)) (λ i. view_at v.opening v.seen v.beside (sym numbers i) (sym stage i) v.given)
+      (splits_at id x y ys v.opening v.seen v.beside v.given)
 
   pub joins : (id other : ℕ) (v w : View C) → v.stage ≡ Idle → w.stage ≡ Idle → Joins Rule id v other w (both v w) spent
   joins id other v w here there =
       subst (λ (u : View C × View C). Joins Rule id u.0 other u.1 (both u.0 u.1) spent)
-      (λ i. (view_at v.opening v.seen v.beside v.numbers (sym here i), view_at w.opening w.seen w.beside w.numbers (sym there i)))
-      (joins_at id other v.opening w.opening v.seen w.seen v.beside w.beside v.numbers w.numbers)
+      (λ i. (view_at v.opening v.seen v.beside v.numbers (sym here i) v.given, view_at w.opening w.seen w.beside w.numbers (sym there i) w.given))
+      (joins_at id other v.opening w.opening v.seen w.seen v.beside w.beside v.numbers w.numbers v.given w.given)

@@ -6,19 +6,19 @@ use Rattle.turn_lock.specs.declared.history.Home.{Home}
 use Rattle.turn_lock.specs.declared.history.Stage.TheVariants.{InTurn}
 use Rattle.turn_lock.specs.declared.history.View.{View}
 use Rattle.turn_lock.specs.declared.lock.TheConstants.{MOST_PASSES}
-use Rattle.turn_lock.specs.History.{turn_of, turns_by, Begins}
+use Rattle.turn_lock.specs.History.{turn_of, turns_by, times, Begins}
 use Rattle.turn_lock.specs.Rule.{view_at, nothing, known, Follows}
 use Rattle.turn_lock.proofs.Histories.{follows_all}
 use Rattle.turn_lock.specs.Plays.{Seated, ticket_of, in_turn, Posts, posted_with, Gives, given_with, new_number, Meets, left, both, longer}
-use Rattle.turn_lock.specs.Lock.{TakesTurn, HasTurn, SplitsNone, Joins, own_of, resting, with_second}
+use Rattle.turn_lock.specs.Lock.{TakesTurn, HasTurn, SplitsNone, Joins, own_of, resting, resting_at, with_second}
 
 module _ {C : Type 0} where
   pub posted_is : (by count : ℕ) (others : List ℕ) (left : Home C) (me w : Seated C) → me.0.numbers ≡ by ∷ others → me.1 ≡ (0, Some left) ∷ [] → Posts me count w
-      → w ≡ (in_turn me.0 (me.0.seen ++ turn_of by left.value ∷ []) (ticket_of me.0.stage) left, (0, Some left) ∷ [])
+      → w ≡ (view_at me.0.opening (me.0.seen ++ turn_of by left.value ∷ []) nothing me.0.numbers (InTurn (ticket_of me.0.stage) left) me.0.given, (0, Some left) ∷ [])
   posted_is by count others left me w numbers out p = p ∙ (λ i. (posted_with (numbers i) (out i) me.0, out i))
 
   pub given_is : (by count : ℕ) (others : List ℕ) (left : Home C) (me w : Seated C) → me.0.numbers ≡ by ∷ others → me.1 ≡ (0, Some left) ∷ [] → Gives me count w
-      → (w ≡ (view_at me.0.opening me.0.seen nothing (by ∷ (left.given - 1) ∷ others) (InTurn (ticket_of me.0.stage) left), (0, Some left) ∷ [])) × (turns_by
+      → (w ≡ (view_at me.0.opening me.0.seen nothing (by ∷ (left.given - 1) ∷ others) (InTurn (ticket_of me.0.stage) left) left.given, (0, Some left) ∷ [])) × (turns_by
       (left.given - 1) me.0.seen ≡ 0)
   given_is by count others left me w numbers out p = (p.0 ∙ (λ i. (given_with (numbers i) (out i) me.0, out i)), sym (ap (λ l. turns_by (new_number l) me.0.seen) out) ∙ p.1)
 
@@ -41,13 +41,21 @@ module _ {C : Type 0} (makes : ℕ → C → C → Type 0) where
   }
 
   pub splits_none : (v : View C) (home : Home C) (w1 w2 : Seated C) → MOST_PASSES ≤ home.given → TakesTurn makes v home w1 → w2 ≡ resting w1.0 w1.0.seen w1.0.numbers
-      → SplitsNone makes v w2
-  splits_none v home w1 w2 many t is = record { home = home; mid = w1; took = t; none_left = many; is = is ∙ ap (λ (x : Seated C). resting x.0 x.0.seen x.0.numbers) t.is }
+      → (lines : C → ℕ) (count : ℕ) → count ≡ lines home.value → SplitsNone makes lines v count w2
+  splits_none v home w1 w2 many t is lines count counted = record {
+    home = home;
+    mid = w1;
+    took = t;
+    none_left = subst (λ (x : Seated C). MOST_PASSES ≤ x.0.given) (sym (is ∙ ap (λ (x : Seated C). resting x.0 x.0.seen x.0.numbers) t.is)) many;
+    count_is = counted;
+    is = is ∙ ap (λ (x : Seated C). resting x.0 x.0.seen x.0.numbers) t.is;
+  }
 
   -- the numbers, once a number was given out
-  pub second_there : (v w1 w2 : Seated C) (home : Home C) (n : ℕ) → 1 ≤ length v.0.numbers → TakesTurn makes v.0 home w1 → w2 ≡ resting w1.0 w1.0.seen (with_second w1.0.numbers n)
+  pub second_there : (v w1 w2 : Seated C) (home : Home C) (n g : ℕ) → 1 ≤ length v.0.numbers → TakesTurn makes v.0 home w1
+      → w2 ≡ resting_at w1.0 w1.0.seen (with_second w1.0.numbers n) g
       → w2.0.numbers ≡ own_of v.0.numbers ∷ n ∷ rest_of v.0.numbers
-  second_there v w1 w2 home n some_number t number =
+  second_there v w1 w2 home n g some_number t number =
       ap (λ (x : Seated C). x.0.numbers) number ∙ ap (λ (x : Seated C). with_second x.0.numbers n) t.is ∙ ap (λ (ns : List ℕ). with_second ns n) (cons_of v.0.numbers some_number)
 
 module _ {C : Type 0} where
@@ -61,6 +69,8 @@ module _ {C : Type 0} where
         is = whole;
         first = subst (λ (x : Seated C). Follows v.numbers v.seen x.0.seen) (sym whole) b.0;
         second = subst (λ (x : Seated C). Follows u.numbers u.seen x.0.seen) (sym whole) b.1;
+        few = subst (λ (x : Seated C). length x.0.numbers ≤ MOST_PASSES) (sym meets.0) meets.2;
+        once = λ x. subst (λ (y : Seated C). times x y.0.numbers ≤ 1) (sym meets.0) (meets.3 x);
       }
     where
       whole_of : (xs ys rest : List (Turn C)) → xs ≡ ys ++ rest → length xs ≤ length ys → xs ≡ ys

@@ -1,5 +1,5 @@
 -- What callers see of a lock and its passes.
-use Rattle.std.specs.Prelude.{◌≡◌, ℕ, ◌≤◌, List, [], ◌∷◌, length, Option, None, Some}
+use Rattle.std.specs.Prelude.{◌≡◌, ℕ, suc, ◌≤◌, List, [], ◌∷◌, length, Option, None, Some}
 use Rattle.atomic_table.specs.declared.shared.Seat.{Seat}
 use Rattle.atomic_table.specs.Seated.{TableId}
 use Rattle.turn_lock.specs.declared.lock.TheConstants.{MOST_PASSES}
@@ -57,7 +57,11 @@ module _ {C : Type 0} where
 
   -- what a pass knows, with another history and other numbers, between two calls
   abbrev pub resting : View C → List (Turn C) → List ℕ → Seated C
-  resting v seen numbers = (view_at v.opening seen nothing numbers Idle, [])
+  resting v seen numbers = (view_at v.opening seen nothing numbers Idle v.given, [])
+
+  -- and of a count of numbers that were given out
+  abbrev pub resting_at : View C → List (Turn C) → List ℕ → ℕ → Seated C
+  resting_at v seen numbers given = (view_at v.opening seen nothing numbers Idle given, [])
 
   -- A pass was given the next number, of which no turn was made; both have seen the whole history, and this is how many lines the book
   -- has after it.
@@ -65,28 +69,32 @@ module _ {C : Type 0} where
     pub seen : List (Turn C)
     pub follows : Follows v.numbers v.seen seen
     pub legal : (opening : C) → v.opening ≡ Some opening → IsHistory makes opening seen × (count ≡ lines (last_of opening seen))
-    pub is : w ≡ resting v seen v.numbers
-    pub other_is : u ≡ (view_at v.opening seen nothing (number ∷ []) Idle, [])
+    pub is : w ≡ resting_at v seen v.numbers (suc number)
+    pub other_is : u ≡ resting_at v seen (number ∷ []) (suc number)
     pub fresh : turns_by number seen ≡ 0
     pub other : times number v.numbers ≡ 0
 
-  -- all numbers were given out
-  pub record SplitsNone (makes : ℕ → C → C → Type 0) (v : View C) (w : Seated C) : Type 0 where
+  -- All numbers were given out. The pass has seen the whole history, after which the book has so many lines.
+  pub record SplitsNone (makes : ℕ → C → C → Type 0) (lines : C → ℕ) (v : View C) (count : ℕ) (w : Seated C) : Type 0 where
     pub home : Home C
     pub mid : Seated C
     pub took : TakesTurn makes v home mid
-    pub none_left : MOST_PASSES ≤ home.given
-    pub is : w ≡ resting v took.seen v.numbers
+    pub none_left : MOST_PASSES ≤ w.0.given
+    pub count_is : count ≡ lines home.value
+    pub is : w ≡ resting_at v took.seen v.numbers home.given
 
   -- two passes met: one has seen a beginning of what the other has seen, and past it no turn was made of its numbers
   pub record Joins (v u : View C) (w : Seated C) : Type 0 where
     pub is : w ≡ (both v u, [])
     pub first : Follows v.numbers v.seen w.0.seen
     pub second : Follows u.numbers u.seen w.0.seen
+    pub few : length w.0.numbers ≤ MOST_PASSES
+    pub once : (x : ℕ) → times x w.0.numbers ≤ 1
 
-  -- A value at the end: what all turns have left, of which none is of a number that the pass hasn't.
+  -- A value at the end: what all turns have left, of which none is of a number that the pass hasn't; it has all that were given out.
   pub record Ends (makes : ℕ → C → C → Type 0) (v : View C) (value : C) : Type 0 where
     pub seen : List (Turn C)
     pub follows : Follows v.numbers v.seen seen
     pub legal : (opening : C) → v.opening ≡ Some opening → IsHistory makes opening seen × (value ≡ last_of opening seen)
     pub whole : (x : ℕ) → times x v.numbers ≡ 0 → turns_by x seen ≡ 0
+    pub all_in : v.given ≤ length v.numbers

@@ -7,6 +7,7 @@ use Rattle.turn_lock.specs.declared.history.Known.{Known}
 use Rattle.turn_lock.specs.declared.history.Stage.{Stage}
 use Rattle.turn_lock.specs.declared.history.Stage.TheVariants.{Idle, Waits, InTurn}
 use Rattle.turn_lock.specs.declared.history.View.{View}
+use Rattle.turn_lock.specs.declared.lock.TheConstants.{MOST_PASSES}
 use Rattle.turn_lock.specs.History.{last_of, IsHistory, turns_by, turn_of, times, once_below, Begins}
 use Rattle.turn_lock.specs.Rule.{Follows, known, nothing, view_at}
 
@@ -20,6 +21,9 @@ abbrev pub second_of : List ℕ → List ℕ
 second_of (x ∷ y ∷ ys) = y ∷ []
 second_of xs = []
 
+abbrev pub greater : ℕ → ℕ → ℕ
+greater x y = if nat_le x y then y else x
+
 -- what a pass knows, and what it has taken out of the slot
 abbrev pub Seated : Type 0 → Type 0
 Seated C = Me (Option (Home C)) (View C)
@@ -31,13 +35,13 @@ module _ {C : Type 0} where
   ticket_of (InTurn n h) = n
 
   abbrev pub waiting : View C → ℕ → View C
-  waiting v n = view_at v.opening v.seen nothing v.numbers (Waits n)
+  waiting v n = view_at v.opening v.seen nothing v.numbers (Waits n) v.given
 
   abbrev pub in_turn : View C → List (Turn C) → ℕ → Home C → View C
-  in_turn v seen n h = view_at v.opening seen nothing v.numbers (InTurn n h)
+  in_turn v seen n h = view_at v.opening seen nothing v.numbers (InTurn n h) h.given
 
   abbrev pub idle : View C → View C
-  idle v = view_at v.opening v.seen nothing v.numbers Idle
+  idle v = view_at v.opening v.seen nothing v.numbers Idle v.given
 
   -- a ticket was drawn
   abbrev pub Draws : Seated C → ℕ → Seated C → Type 0
@@ -50,6 +54,7 @@ module _ {C : Type 0} where
     pub legal : (opening : C) → v.opening ≡ Some opening → IsHistory makes opening seen × (home.value ≡ last_of opening seen)
     pub below : (x : ℕ) → times x v.numbers ≤ once_below x home.given
     pub unused : (x : ℕ) → home.given ≤ x → turns_by x seen ≡ 0
+    pub counted : v.given ≤ home.given
 
   -- its ticket is served: the pass is in turn, and the slot is its own
   pub record IsServed (makes : ℕ → C → C → Type 0) (v : View C) (n : ℕ) (w : Seated C) : Type 0 where
@@ -64,7 +69,8 @@ module _ {C : Type 0} where
 
   -- by what it is about to leave
   abbrev pub posted_with : List ℕ → List (ℕ × Option (Home C)) → View C → View C
-  posted_with (by ∷ others) ((k, Some left) ∷ rest) v = in_turn v (v.seen ++ turn_of by left.value ∷ []) (ticket_of v.stage) left
+  posted_with (by ∷ others) ((k, Some left) ∷ rest) v =
+      view_at v.opening (v.seen ++ turn_of by left.value ∷ []) nothing v.numbers (InTurn (ticket_of v.stage) left) v.given
   posted_with numbers carried v = v
 
   -- the turn is one of the history from now on
@@ -74,7 +80,7 @@ module _ {C : Type 0} where
   -- with a number more, the last that was given out
   abbrev pub given_with : List ℕ → List (ℕ × Option (Home C)) → View C → View C
   given_with (by ∷ others) ((k, Some left) ∷ rest) v =
-      view_at v.opening v.seen nothing (by ∷ (left.given - 1) ∷ others) (InTurn (ticket_of v.stage) left)
+      view_at v.opening v.seen nothing (by ∷ (left.given - 1) ∷ others) (InTurn (ticket_of v.stage) left) left.given
   given_with numbers carried v = v
 
   abbrev pub new_number : List (ℕ × Option (Home C)) → ℕ
@@ -89,17 +95,18 @@ module _ {C : Type 0} where
   abbrev pub PassesOn : Seated C → ℕ → Seated C → Type 0
   PassesOn m r w = w ≡ (idle m.0, [])
 
-  -- of two passes that met one had seen a beginning of what the other had seen
+  -- Of two passes that met one had seen a beginning of what the other had seen; and a pass has no number twice, and no more than there are.
   abbrev pub Meets : Seated C → ℕ → Seated C → Type 0
   Meets m r w = (w ≡ m) × (Follows m.0.beside.numbers m.0.beside.seen m.0.seen ⊎ Begins m.0.seen m.0.beside.seen)
+      × (length m.0.numbers ≤ MOST_PASSES) × ((x : ℕ) → times x m.0.numbers ≤ 1)
 
   -- ---- one pass is made two
 
   abbrev pub left : View C → View C
-  left v = view_at v.opening v.seen nothing (without_second v.numbers) v.stage
+  left v = view_at v.opening v.seen nothing (without_second v.numbers) v.stage v.given
 
   abbrev pub right : View C → View C
-  right v = view_at v.opening v.seen nothing (second_of v.numbers) Idle
+  right v = view_at v.opening v.seen nothing (second_of v.numbers) Idle v.given
 
   -- ---- two passes are made one
 
@@ -110,8 +117,8 @@ module _ {C : Type 0} where
   shorter v w = if nat_le (length v.seen) (length w.seen) then known v.seen v.numbers else known w.seen w.numbers
 
   abbrev pub both : View C → View C → View C
-  both v w = view_at v.opening (longer v.seen w.seen) (shorter v w) (v.numbers ++ w.numbers) v.stage
+  both v w = view_at v.opening (longer v.seen w.seen) (shorter v w) (v.numbers ++ w.numbers) v.stage (greater v.given w.given)
 
   -- a pass that another has taken in
   abbrev pub spent : View C
-  spent = view_at None [] nothing [] Idle
+  spent = view_at None [] nothing [] Idle 0

@@ -68,6 +68,7 @@ module _ {C : Type 0} where
     pub beside : Follows v.beside.numbers v.beside.seen log
     pub within : (x : ℕ) → 1 ≤ times x v.beside.numbers → 1 ≤ times x v.numbers
     pub stands : StandsAt h log drawn served turn p v v.stage
+    pub counted : v.given ≤ h.given
 
   -- What holds at every moment: how many tickets were drawn and which is served, modulo 2 ^ 64; who is in turn; the history, and how
   -- many numbers were given out, each of which is in one view, once, and none of the others has a turn.
@@ -99,10 +100,10 @@ module _ {C : Type 0} where
   abbrev pub nothing : Known C
   nothing = known [] []
 
-  abbrev pub view_at : Opt C → List (Turn C) → Known C → List ℕ → Stage C → View C
-  view_at opening seen beside numbers stage =
-      record { opening = opening; seen = seen; beside = beside; numbers = numbers; stage = stage }
+  abbrev pub view_at : Opt C → List (Turn C) → Known C → List ℕ → Stage C → ℕ → View C
+  view_at opening seen beside numbers stage given =
+      record { opening = opening; seen = seen; beside = beside; numbers = numbers; stage = stage; given = given }
 
   -- of the first pass, whose number is 0
   abbrev pub first_view : C → View C
-  first_view opening = view_at (Some opening) [] nothing (0 ∷ []) Idle
+  first_view opening = view_at (Some opening) [] nothing (0 ∷ []) Idle 1

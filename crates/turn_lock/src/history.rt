@@ -41,4 +41,6 @@ pub struct View<C> {
     /// Its own number first, then those of the passes that it took in.
     pub numbers: LinkedList<u64>,
     pub stage: Stage<C>,
+    /// So many numbers were given out, as it knows, or more.
+    pub given: u64,
 }

@@ -16,4 +16,4 @@ mod turns;
 
 pub use crate::booked::Booked;
 pub use crate::history::{Home, Stage, Turn, View};
-pub use crate::lock::{MOST_PASSES, NewPass, TurnLock, TurnPass};
+pub use crate::lock::{MOST_PASSES, NewPass, StillOpen, TurnLock, TurnPass};

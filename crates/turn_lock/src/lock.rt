@@ -36,3 +36,13 @@ pub struct NewPass<C> {
     /// How many lines the book has after the history that it has seen.
     pub lines: u64,
 }
+
+/// A lock that can't be closed yet, as other passes have numbers of it.
+pub struct StillOpen<C: Booked> {
+    pub lock: TurnLock<C>,
+    pub pass: TurnPass<C>,
+    /// How many numbers other passes have.
+    pub others: u64,
+    /// How many lines the book has after the history that the pass has seen.
+    pub lines: u64,
+}

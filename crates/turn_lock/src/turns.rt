@@ -1,15 +1,15 @@
 //! Turns: a ticket is drawn, served, and passed on.
-ghost use Rattle.std.specs.Prelude.{◌≡◌, ◌<◌, ◌≤◌, ◌+◌, ◌-◌, ◌%◌, ◌^◌, ◌++◌, ◌∷◌, [], ℕ, Some, None, IfOk, IfErr, IfSome, MatchOption, length};
+ghost use Rattle.std.specs.Prelude.{◌≡◌, ◌<◌, ◌≤◌, ◌+◌, ◌-◌, ◌%◌, ◌^◌, ◌++◌, ◌∷◌, [], ℕ, Some, None, IfOk, IfErr, length};
 ghost use Rattle.std.specs.Fn.{CalledAtMut};
 ghost use Rattle.turn_lock.specs.declared.history.Stage.TheVariants.{Waits, InTurn};
 ghost use Rattle.turn_lock.specs.History.{turn_of, turns_by};
 ghost use Rattle.turn_lock.specs.Plays.{Draws, IsServed, ticket_of};
 ghost use Rattle.turn_lock.specs.Rule.{first_view};
-ghost use Rattle.turn_lock.specs.Lock.{Ends, Rests, IsSamePass, TakesTurn, HasTurn, Joins, Splits, SplitsNone, lock_id, own_of, resting, with_second};
+ghost use Rattle.turn_lock.specs.Lock.{Ends, Rests, IsSamePass, TakesTurn, HasTurn, Joins, Splits, SplitsNone, lock_id, own_of, resting, resting_at, with_second};
 
 use crate::booked::Booked;
 use crate::history::{Home, View};
-use crate::lock::{LINES, MOST_PASSES, NewPass, SERVED, TICKETS, TurnLock, TurnPass};
+use crate::lock::{LINES, MOST_PASSES, NewPass, SERVED, StillOpen, TICKETS, TurnLock, TurnPass};
 use crate::plays::{Draw, Give, Look, Meet, PassOn, Post};
 use atomic_table::{Refused, Table};
 use std::alloc::Global;
@@ -110,7 +110,8 @@ impl<C: Booked> TurnLock<C> {
             × (home.given ≡ found.given + 1) × (found.given < MOST_PASSES) }
         ensures lines { result ≡ C.lines home.value }
         ensures same { IsSamePass pass.old pass.new }
-        ensures number { pass.new.me ≡ resting pass.old.me.0 pass.old.me.0.seen (with_second pass.old.me.0.numbers (home.given - 1)) }
+        ensures number { pass.new.me
+            ≡ resting_at pass.old.me.0 pass.old.me.0.seen (with_second pass.old.me.0.numbers (home.given - 1)) home.given }
         ensures fresh { turns_by (home.given - 1) pass.old.me.0.seen ≡ 0 }
     {
         let lines = home.value.lines();
@@ -166,25 +167,27 @@ impl<C: Booked> TurnLock<C> {
         made
     }
 
-    /// Another pass of this lock, with the next number: it has seen what this one has seen then. None where `MOST_PASSES` numbers
-    /// were given out. It waits for a turn, which is none of the history.
-    pub fn split_pass<R: Wait>(&self, rt: &R, pass: &mut TurnPass<C>) -> Option<NewPass<C>>
+    /// Another pass of this lock, with the next number: it has seen what this one has seen then. Where `MOST_PASSES` numbers were
+    /// given out there is none; then it says how many lines the book has after the history that the pass has seen. It waits for a turn,
+    /// which is none of the history.
+    pub fn split_pass<R: Wait>(&self, rt: &R, pass: &mut TurnPass<C>) -> Result<NewPass<C>, u64>
         requires pass { pass.old.table_id ≡ lock_id self.now }
         requires rests { Rests pass.old }
         ensures same { IsSamePass pass.old pass.new }
-        ensures other { IfSome result (λ other. other.pass.table_id ≡ pass.old.table_id) }
-        ensures split { MatchOption result (SplitsNone C.makes pass.old.me.0 pass.new.me)
-            (λ other. Splits C.makes C.lines pass.old.me.0 other.number other.lines pass.new.me other.pass.me) }
+        ensures other { IfOk result (λ other. (other.pass.table_id ≡ pass.old.table_id) × (other.number < MOST_PASSES)) }
+        ensures split { IfOk result (λ other. Splits C.makes C.lines pass.old.me.0 other.number other.lines pass.new.me other.pass.me) }
+        ensures none { IfErr result (λ lines. SplitsNone C.makes C.lines pass.old.me.0 lines pass.new.me) }
     {
         let mut home = self.take_turn(rt, pass);
         if home.given >= MOST_PASSES {
+            let lines = home.value.lines();
             self.end_idly(pass, home);
-            return None;
+            return Err(lines);
         }
         let number = home.given;
         home.given += 1;
         let lines = self.end_with_number(pass, home);
-        Some(NewPass {
+        Ok(NewPass {
             pass: self.table.shared.split_seat::<Give>(pass),
             number,
             lines,
@@ -221,28 +224,30 @@ fn taken_back<C>(mut slots: Vec<Option<Home<C>>>) -> C
 }
 
 impl<C: Booked + Drop> TurnLock<C> {
-    /// Waits for a last turn, and gives the value that it finds, where the pass has all numbers; else gives lock and pass back, and how
-    /// many numbers other passes have. It is told how many the pass has.
-    pub fn close<R: Wait>(
-        self,
-        rt: &R,
-        pass: TurnPass<C>,
-        numbers: u64,
-    ) -> Result<C, (TurnLock<C>, TurnPass<C>, u64)>
+    /// Waits for a last turn, and gives the value that it finds, where the pass has all numbers; else gives lock and pass back. It is
+    /// told how many numbers the pass has.
+    pub fn close<R: Wait>(self, rt: &R, pass: TurnPass<C>, numbers: u64) -> Result<C, StillOpen<C>>
         requires pass { pass.table_id ≡ lock_id self }
         requires rests { Rests pass }
         requires numbers { numbers ≡ length pass.me.0.numbers }
         ensures ended { IfOk result (λ value. Ends C.makes pass.me.0 value) }
-        ensures others { IfErr result (λ r. (1 ≤ r.2) × (r.1.table_id ≡ lock_id r.0)
-            × ((home : Home C) × (w : _) × TakesTurn C.makes pass.me.0 home w × (r.2 + numbers ≡ home.given)
-            × (r.1.me ≡ resting w.0 w.0.seen w.0.numbers))) }
+        ensures same { IfErr result (λ back. (lock_id back.lock ≡ lock_id self) × IsSamePass pass back.pass) }
+        ensures others { IfErr result (λ back. (1 ≤ back.others)
+            × ((home : Home C) × (w : _) × TakesTurn C.makes pass.me.0 home w × (back.others + numbers ≡ home.given)
+            × (back.lines ≡ C.lines home.value) × (back.pass.me ≡ resting w.0 w.0.seen w.0.numbers))) }
     {
         let mut pass = pass;
         let home = self.take_turn(rt, &mut pass);
         if home.given > numbers {
             let others = home.given - numbers;
+            let book = home.value.lines();
             self.end_idly(&mut pass, home);
-            return Err((self, pass, others));
+            return Err(StillOpen {
+                lock: self,
+                pass,
+                others,
+                lines: book,
+            });
         }
         Ok(home.value)
     }

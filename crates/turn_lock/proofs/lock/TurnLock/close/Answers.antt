@@ -1,4 +1,4 @@
-use Rattle.std.proofs.Common.{◌≤◌, length, rules}
+use Rattle.std.proofs.Common.{◌≤◌, arith, length, rules}
 use Rattle.turn_lock.proofs.Turning.{in_turn_of}
 use Rattle.turn_lock.proofs.Counting.{each_there}
 use Rattle.turn_lock.proofs.lock.TurnLock.close.Goals as goal
@@ -13,12 +13,12 @@ returns-clause-ended g c =
       seen = t.seen;
       follows = t.all.follows;
       legal = t.all.legal;
+      all_in = (let a = t.all.counted in omega arith);
       whole = λ x none_there. t.all.unused x (each_there c.args.pass.me.0.numbers c.take_turn-home.result.given t.all.below all x none_there);
     }
 
 pub returns-then-home-numbers-clause-others : goal.returns-then-home-numbers-clause-others
 returns-then-home-numbers-clause-others g c = (
   search rules,
-  search rules,
-  (c.take_turn-home.result, c.take_turn-home.new.pass.me, c.take_turn-home.ensures.took, search rules, c.end_idly.ensures.rests),
+  (c.take_turn-home.result, c.take_turn-home.new.pass.me, c.take_turn-home.ensures.took, search rules, search rules, c.end_idly.ensures.rests),
 )

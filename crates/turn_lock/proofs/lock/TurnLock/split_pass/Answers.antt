@@ -15,8 +15,9 @@ split_seat-requires g c = let number = c.end_with_number-lines.ensures.number in
   search rules,
   search rules,
   splits _ _ _ _ _ _ _ _ (ap (λ m. m.0.stage) number)
-      (second_there _ c.args.pass.now.me c.take_turn-home.new.pass.me _ _ _ c.requires.rests.numbered c.take_turn-home.ensures.took number),
+      (second_there _ c.args.pass.now.me c.take_turn-home.new.pass.me _ _ _ _ c.requires.rests.numbered c.take_turn-home.ensures.took number),
 )
 
-pub returns-then-home-ge-MOST_PASSES-clause-split : goal.returns-then-home-ge-MOST_PASSES-clause-split
-returns-then-home-ge-MOST_PASSES-clause-split g c = splits_none _ _ _ _ _ (search rules) c.take_turn-home.ensures.took c.end_idly.ensures.rests
+pub returns-then-home-ge-MOST_PASSES-clause-none : goal.returns-then-home-ge-MOST_PASSES-clause-none
+returns-then-home-ge-MOST_PASSES-clause-none g c =
+    splits_none _ _ _ _ _ (search rules) c.take_turn-home.ensures.took c.end_idly.ensures.rests _ _ c.lines-lines.ensures

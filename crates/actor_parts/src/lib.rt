@@ -5,6 +5,7 @@
 #![tactic(auto)]
 
 mod actor;
+mod answered;
 mod part;
 mod parts;
 mod pins;
@@ -15,6 +16,7 @@ mod tree_seg;
 mod unpinned;
 
 pub use actor::{ACTORS, Actor, Percent};
+pub use answered::Answered;
 pub use part::{Part, Reader};
 pub use parts::{Parts, parts_are_apart};
 pub use pins::{Pin, Pins};

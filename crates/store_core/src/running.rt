@@ -86,6 +86,10 @@ impl<D: Disk, M: Summary> HasState for Core<D, M> {
         self.last_sequence()
     }
 
+    fn acknowledged(&self) -> u64 {
+        self.acknowledged()
+    }
+
     fn moment(&self) -> u64 {
         self.moment()
     }
@@ -491,6 +495,13 @@ impl<D: Disk, M: Summary> Core<D, M> {
         ensures { result ≡ (⟦<Core<D, M> as HasState>⟧.state self.now).tables.journal.last }
     {
         self.tables.journal.last()
+    }
+
+    /// How many puts and deletes were acknowledged since the opening: the lines of its book.
+    pub fn acknowledged(&self) -> u64
+        ensures { result ≡ (⟦<Core<D, M> as HasState>⟧.state self.now).acknowledged }
+    {
+        self.acknowledged
     }
 
     /// The moment of its disk, or 2^64 - 1 where that is less.

@@ -1,21 +1,12 @@
 //! A core whose only caller is one actor.
-ghost use Rattle.std.specs.Prelude.{◌≡◌, ◌<◌, ℕ, get_or};
-ghost use Rattle.actor_parts.specs.Counts.{Counts, is_refused_by, is_end};
-ghost use Rattle.refusals.specs.Numbers.{number_of};
+ghost use Rattle.std.specs.Prelude.{◌≡◌, ℕ, get_or};
 ghost use Rattle.store_core.specs.Core.{CoreStep};
 ghost use Rattle.store_core.specs.State.{IsRunning};
 
 use crate::state::HasState;
-use actor_parts::{Actor, Answer, SegBuf, Step, StoreCalls};
+use actor_parts::{Actor, Answer, Answered, SegBuf, Step, StoreCalls};
 use refusals::Refusal;
 use std::marker::Model;
-
-/// What was answered: how often each refusal, by its number, and how often the end of a file.
-#[derive(Clone, Copy)]
-pub struct Answered {
-    refused: [u64; 22],
-    ended: u64,
-}
 
 /// A core that runs, and the one actor whose steps it makes. Contracts see it as the core and the actor, and what was answered.
 pub struct Solo<C: HasState> {
@@ -27,7 +18,7 @@ pub struct Solo<C: HasState> {
 impl<C: HasState> Model for Solo<C> {
     ghost use Rattle.std.specs.Prelude.{ℕ};
     ghost use Rattle.store_core.specs.State.{IsRunning};
-    ghost use Rattle.store_core.specs.declared.solo.Answered.{Answered};
+    ghost use Rattle.actor_parts.specs.declared.answered.Answered.{Answered};
 
     ghost Value = { (C × ℕ) × Answered };
 
@@ -47,10 +38,7 @@ impl<C: HasState> Solo<C> {
         Solo {
             core,
             actor,
-            answered: Answered {
-                refused: [0; 22],
-                ended: 0,
-            },
+            answered: Answered::nothing(),
         }
     }
 
@@ -68,56 +56,6 @@ impl<C: HasState> Solo<C> {
     }
 }
 
-// The number of a refusal.
-fn number(refusal: &Refusal) -> usize
-    ensures value { result ≡ number_of refusal.now }
-    ensures below { result < 22 }
-{
-    match refusal {
-        Refusal::Memory => 1,
-        Refusal::NoFile => 2,
-        Refusal::BadName => 3,
-        Refusal::TooMany => 4,
-        Refusal::TooLong => 5,
-        Refusal::Full { .. } => 6,
-        Refusal::Clash { .. } => 7,
-        Refusal::WrongPart { .. } => 8,
-        Refusal::Collecting { .. } | Refusal::NotCollecting => 9,
-        Refusal::DiskRead => 10,
-        Refusal::DiskWrite => 11,
-        Refusal::Stopped { .. } => 12,
-        Refusal::Corrupt { .. } => 13,
-        Refusal::Missing { .. } => 14,
-        Refusal::Numbers => 15,
-        Refusal::NotAStore { .. } => 16,
-        Refusal::Version { .. } => 17,
-        Refusal::Damaged { .. } => 18,
-        Refusal::Unpinned { .. } => 19,
-        Refusal::AlreadyStore => 20,
-        Refusal::WrongSize { .. } => 21,
-    }
-}
-
-// Counts an answer, where it is a refusal.
-fn count_refusal(counts: &mut [u64; 22], answer: &Result<Answer, Refusal>)
-    ensures { (n : ℕ) → Counts (is_refused_by n answer.now) (get_or counts.old n 0) (get_or counts.new n 0) }
-{
-    if let Err(refusal) = answer {
-        let at = number(refusal);
-        counts[at] = counts[at].saturating_add(1);
-    }
-}
-
-// Counts an answer, where it is the end of a file.
-fn count_end(count: u64, answer: &Result<Answer, Refusal>) -> u64
-    ensures { Counts (is_end answer.now) count result }
-{
-    match answer {
-        Ok(Answer::End) => count.saturating_add(1),
-        _ => count,
-    }
-}
-
 impl<C: HasState> StoreCalls for Solo<C> {
     ghost refused = { λ s n. get_or s.1.refused n 0 };
 
@@ -129,8 +67,7 @@ impl<C: HasState> StoreCalls for Solo<C> {
 
     fn ask(&mut self, step: Step<'_>, buf: &mut SegBuf) -> Result<Answer, Refusal> {
         let answer = self.core.make_step(self.actor, step, buf);
-        count_refusal(&mut self.answered.refused, &answer);
-        self.answered.ended = count_end(self.answered.ended, &answer);
+        self.answered.count(&answer);
         answer
     }
 }

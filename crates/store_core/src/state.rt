@@ -59,6 +59,10 @@ pub trait HasState {
     fn last_sequence(&self) -> u64
         ensures { result ≡ (state self.now).tables.journal.last };
 
+    /// How many puts and deletes were acknowledged since the opening: the lines of its book.
+    fn acknowledged(&self) -> u64
+        ensures { result ≡ (state self.now).acknowledged };
+
     /// The moment of its disk, or 2^64 - 1 where that is less.
     fn moment(&self) -> u64
         ensures { result ≡ min (state self.now).disk.clock (2 ^ 64 - 1) };

@@ -1,5 +1,5 @@
 -- A file that is read goes on over a step of a collection, which spares what is needed: the trees of the files that actors read.
-use Rattle.core_machine.proofs.Prelude.{◌≡◌, inr, ◌<◌, ℕ, List, [], ◌∷◌, Option, Some, refl, sym, ◌∙◌, ap, subst, arith, AllByRecursion, HeaderValue, of_segment, IsTree, segments_in, Top, ACTORS, Reader, SegmentsAhead, segments_on, IsPartKey, IsIn, Stored, Store, root_key, HoldsCounted, key_set, tree_keys, HasKey, KeepsCopies, HasNewest, file_tree, contained, in_set, tree_on, right_file, root_of_tree, HoldsPart, IsAt, CoreState, all_part}
+use Rattle.core_machine.proofs.Prelude.{◌≡◌, inr, ◌<◌, ℕ, List, [], ◌∷◌, Option, Some, refl, sym, ◌∙◌, ap, subst, AllByRecursion, HeaderValue, of_segment, IsTree, segments_in, Top, ACTORS, Reader, SegmentsAhead, segments_on, IsPartKey, IsIn, Stored, Store, root_key, HoldsCounted, key_set, tree_keys, HasKey, KeepsCopies, HasNewest, file_tree, contained, in_set, tree_on, right_file, root_of_tree, HoldsPart, IsAt, CoreState, all_part}
 use Rattle.std.proofs.Common.{map}
 use Rattle.std.specs.List.{Contains}
 use Rattle.merkle_file.specs.Tree.{Tree, Empty, Leaf, Node, root_of}
@@ -8,7 +8,6 @@ use Rattle.actor_parts.specs.declared.part.Part.TheVariants as core_parts
 use Rattle.actor_parts.specs.declared.part.Part as core_part
 use Rattle.actor_parts.specs.Parts.{part_of}
 use Rattle.read_steps.specs.Opening.{top_of}
-use Rattle.gc_steps.specs.LiveTrees.{IsRootOf}
 use Rattle.gc_steps.specs.Safety.{IsNeeded}
 use Rattle.gc_steps.proofs.ReaderNeeds.{reader_needs}
 use Rattle.store_model.proofs.Unfolding.{trees_agree}
@@ -17,12 +16,6 @@ use Rattle.core_machine.specs.Files.{Takes}
 use Rattle.core_machine.proofs.Coming.{takes_at}
 
 -- ---- trees
-
--- a tree has the key of its root
-pub root_within : (t : Tree (List ℕ)) (key : List ℕ) → IsRootOf key t → Contains (tree_keys t) key
-root_within Empty key is = absurd is
-root_within (Leaf segment) key is = (0, omega arith, sym is)
-root_within (Node level ts) key is = (0, omega arith, sym is)
 
 -- trees of one root that are held are one
 module _ (held : List (Option HeaderValue)) (image : List ℕ) (P Q : List ℕ → Type 0) where

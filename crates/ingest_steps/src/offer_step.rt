@@ -40,7 +40,8 @@ fn pin_for(
     requires step { AreStepContents filled.now }
     ensures ok { OnOk result ((pins : PinMap) → part_of parts.old actor ≡ Writing pins
         → parts.new ≡ with_part parts.old actor (Writing (with_pins_of filled.now pins))) }
-    ensures had { IfOk result (λ hads. (pins : PinMap) → part_of parts.old actor ≡ Writing pins → WereHadIn filled.now pins hads.items) }
+    ensures had { IfOk result (λ hads. (pins : PinMap) → part_of parts.old actor ≡ Writing pins
+        → WereHadIn filled.now pins hads.items) }
     ensures many { IfOk result (λ hads. length hads.items ≡ length filled.now) }
     ensures unchanged { OnErr result (parts.new ≡ parts.old) }
     ensures refused { IfErr result (λ refusal. refusal ≡ Memory) }

@@ -105,7 +105,8 @@ fn data_sizes(alloc: Global, filled: &[OpenContainer]) -> Result<Vec<u32>, Alloc
     requires { HaveSegments filled.now }
     ensures sizes { IfOk result (λ sizes. AreSizes filled.now sizes.items) }
     ensures many { IfOk result (λ sizes. length sizes.items ≡ length filled.now) }
-    ensures right { OnOk result ((id : ℕ) → ((i : ℕ) → i < length filled.now → is_id (id + i) ≡ true) → AreRight id filled.now) }
+    ensures right { OnOk result ((id : ℕ) → ((i : ℕ) → i < length filled.now → is_id (id + i) ≡ true)
+        → AreRight id filled.now) }
 {
     let mut sizes = Vec::new(alloc);
     for i in 0..filled.len() {

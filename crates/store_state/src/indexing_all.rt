@@ -133,7 +133,8 @@ fn put_at<D: Disk, X: Index>(
     requires slots { IsOfSlots (D.view disk.old).size }
     requires lie { AreListed (D.view disk.old).size filled.now befores.now }
     requires over { KnownMap (X.places index.old (D.view disk.old).content) (IsOverIn filled.now befores.now) }
-    ensures ok { OnOk result ((c : Contents) → slice_get filled.now at ≡ Some c → KnownMap (X.places index.old (D.view disk.old).content)
+    ensures ok { OnOk result ((c : Contents) → slice_get filled.now at ≡ Some c
+        → KnownMap (X.places index.old (D.view disk.old).content)
         (λ m. X.places index.new (D.view disk.new).content ≡ Some (with_entries c.kind slot (entries_from 0 c.segments) m))) }
     ensures unknown { OnOk result (Stays (X.places index.old (D.view disk.old).content) (X.places index.new (D.view disk.new).content)) }
     ensures memory { result ≡ Err Memory → TakesAllBack filled.now befores.now (X.places index.old (D.view disk.old).content)

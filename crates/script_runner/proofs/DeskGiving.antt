@@ -16,9 +16,9 @@ use Rattle.store_machine.specs.Lines as machine
 use Rattle.store_machine.specs.Lines.{new_session}
 use Rattle.script_runner.specs.Acts.{Acts, Admits}
 use Rattle.script_runner.specs.Sessions.{session_of}
-use Rattle.script_runner.proofs.DeskParts.{same_wrote}
+use Rattle.session_turns.proofs.WritingStays.{put_quiet, same_wrote}
 use Rattle.script_runner.proofs.DeskRuns.{ran_none}
-use Rattle.script_runner.proofs.DeskSessions.{DeskSession, desk_session, gives_on, is_put, put_quiet, same_on, same_put}
+use Rattle.script_runner.proofs.DeskSessions.{DeskSession, desk_session, gives_on, is_put, same_on, same_put}
 use Rattle.script_runner.proofs.DeskSteps.{Acted, makes}
 use Rattle.script_runner.proofs.Fitting.{AtDesk, Fitted, Keeps}
 

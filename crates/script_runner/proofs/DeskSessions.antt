@@ -1,10 +1,10 @@
 -- The sessions of a desk beside those of a runner, and what actors are at.
-use Rattle.script_runner.proofs.Prelude.{◌≡◌, ◌≢◌, ◌∙◌, ◌==◌, ◌<◌, inl, inr, ℕ, zero, suc, Bool, true, false, if◌then◌else◌, List, [], ◌∷◌, length, slice_set, replicate, Option, Some, None, refl, sym, ap, subst, arith, cases_lt, eqb-true, eqb-false, get_or-set_same, get_or_past, length-set, PartKind, kept, SessionState, Session, all_none, IsSessionOf, Kept, SameSession, SameSessions, WritersGive, Sessions, has_ended, kind_by, with_session}
+use Rattle.script_runner.proofs.Prelude.{◌≡◌, ◌≢◌, ◌∙◌, ◌==◌, ◌<◌, ℕ, zero, suc, Bool, true, false, if◌then◌else◌, List, [], ◌∷◌, length, slice_set, replicate, Option, Some, None, refl, sym, ap, subst, arith, eqb-true, eqb-false, get_or-set_same, PartKind, kept, SessionState, Session, all_none, IsSessionOf, Kept, SameSession, SameSessions, WritersGive, Sessions, has_ended, kind_by, with_session}
 use Rattle.std.proofs.Common.{slice_index_or}
 use Rattle.actor_parts.specs.declared.part.Part as core_part
 use Rattle.actor_parts.specs.declared.part.Part.TheVariants as core_parts
 use Rattle.actor_parts.specs.Kinds as core_kinds
-use Rattle.actor_parts.specs.Parts.{part_of, with_part}
+use Rattle.actor_parts.specs.Parts.{part_of}
 use Rattle.refusals.specs.declared.refusal.PartKind.TheVariants as kinds
 use Rattle.store_machine.specs.Lines as machine
 use Rattle.script_runner.specs.Sessions.{session_of}
@@ -118,15 +118,3 @@ gives_on a xs ys old new gives sessions parts own b none = by (b == a) refl
 -- a session that is put there is there
 pub is_put : (xs : Sessions) (a : ℕ) (x : SessionState) → a < length xs → session_of (with_session xs a (Some x)) a ≡ None → ⊥
 is_put xs a x below none = let both = sym (get_or-set_same xs a (Some x) None below) ∙ none in absurd cc
-
--- an actor that is given another part than one that writes doesn't write
-pub put_quiet : (parts : List core_part.Part) (a : ℕ) (p : core_part.Part) → core_kinds.kind_of p ≢ kinds.Writing
-    → core_kinds.kind_of (part_of (with_part parts a p) a) ≢ kinds.Writing
-unfolding part_of with_part
-put_quiet parts a p quiet writes = elim (cases_lt a (length parts)) [
-  | inl below ↦ quiet (ap core_kinds.kind_of (sym (get_or-set_same parts a p core_parts.Idle below)) ∙ writes)
-  | inr past ↦ idle_not (ap core_kinds.kind_of (sym (get_or_past (slice_set parts a p) a core_parts.Idle (omega (arith, past, length-set parts a p)))) ∙ writes)
-]
-  where
-    idle_not : kinds.Idle ≡ kinds.Writing → ⊥
-    idle_not is = absurd cc

@@ -11,7 +11,9 @@ use Rattle.store_machine.specs.Lines.{IsStep, kind_at}
 use Rattle.store_machine.specs.Machine.{kind_of}
 use Rattle.script_runner.specs.Acts.{Acts, Admits}
 use Rattle.script_runner.specs.Sessions.{session_of}
-use Rattle.script_runner.proofs.DeskParts.{IsQuiet, others_stay, quiet_gives}
+use Rattle.session_turns.specs.Owning.{IsQuiet}
+use Rattle.session_turns.proofs.WritingStays.{others_stay}
+use Rattle.script_runner.proofs.DeskParts.{quiet_gives}
 use Rattle.script_runner.proofs.DeskRuns.{Ran, ran_none, ran_step}
 use Rattle.script_runner.proofs.DeskSessions.{same_at, same_kind, same_on}
 use Rattle.script_runner.proofs.Fitting.{AtDesk, Fitted, IsOfGiven, Keeps, Leads}

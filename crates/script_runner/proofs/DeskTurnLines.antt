@@ -22,7 +22,8 @@ use Rattle.script_runner.specs.Acts.{Acts, Admits, turned}
 use Rattle.script_runner.specs.Sessions.{session_of}
 use Rattle.script_runner.proofs.DeskGiving.{desk_put, gives_still}
 use Rattle.script_runner.proofs.DeskRuns.{Ran, ran_none, ran_on}
-use Rattle.script_runner.proofs.DeskSessions.{DeskSession, desk_session, put_quiet, session_on}
+use Rattle.session_turns.proofs.WritingStays.{put_quiet}
+use Rattle.script_runner.proofs.DeskSessions.{DeskSession, desk_session, session_on}
 use Rattle.script_runner.proofs.DeskSteps.{Acted, Makes, answers_so, makes, number_so}
 use Rattle.script_runner.proofs.DeskTurns.{TurnsMade, answering, due_of, paused_of, taken_of, turn_made, turn_refused, turns_made, turns_stop}
 use Rattle.script_runner.proofs.Fitting.{AtDesk, Fitted}

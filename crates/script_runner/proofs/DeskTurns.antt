@@ -14,7 +14,8 @@ use Rattle.ingest_session.proofs.Staying.{told}
 use Rattle.script_runner.proofs.DeskRuns.{Ran, ran_none, ran_on}
 use Rattle.script_runner.proofs.DeskSessions.{session_on}
 use Rattle.script_runner.proofs.DeskSteps.{Makes, makes}
-use Rattle.script_runner.proofs.Fitting.{Fitted, HasTaken, IsAskedFor}
+use Rattle.session_turns.specs.Owning.{IsAskedFor}
+use Rattle.script_runner.proofs.Fitting.{Fitted, HasTaken}
 
 -- ---- sessions
 

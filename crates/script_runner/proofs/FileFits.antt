@@ -1,52 +1,32 @@
 -- The machine of files fits a core whose disk tells its content; and so lines over such a core are lines of it.
-use Rattle.script_runner.proofs.Prelude.{HasHistory, ◌≡◌, ◌⊎◌, ◌∙◌, ◌<◌, ◌≤◌, inl, inr, ℕ, zero, suc, Bool, List, [], ◌∷◌, ◌++◌, length, replicate, Option, Some, None, Result, Ok, Err, refl, sym, ap, subst, arith, length-replicate, AllByRecursion, DiskView, OnlyReads, leaves_weaker, Root, MOST_FILE, Top, KnownWith, ACTORS, Answer, StepValue, apart, Kind, Leaf, Tree, Contents, KindSegment, Segment, Refusal, Due, due_in, offered_in, kept, History, answered, no_history, turn_of, IsItem, IsOffered, SessionState, turn_node, all_is_kept, bytes_are_counted, turns_are_pieces, all_of, in_none, one_of, ByteSet, HasNoCollisions, Data, HasPieceOf, IsPieceOf, Node, piece_segment, root_of, Stop, BeginRow, CoreStep, Row, StepsOr, kept_by, StaysOrStops, FileEvent, FileStep, IsNoGcStep, IsRootOf, CoreState, Event, running_step, Replied, Asked, step_of, FileMachine, RunState, Running, Stopped, of_files, Store, ChangesBytes, IsAtFiles, IsReady, FileDesk, HoldsKept, Kept, SameSessions, of_kind}
+use Rattle.script_runner.proofs.Prelude.{HasHistory, ◌≡◌, ◌⊎◌, ◌∙◌, ◌<◌, ◌≤◌, inl, inr, ℕ, zero, suc, Bool, List, [], ◌∷◌, length, replicate, Option, Some, None, Ok, Err, refl, sym, ap, subst, length-replicate, DiskView, OnlyReads, leaves_weaker, Root, MOST_FILE, Top, KnownWith, ACTORS, Answer, StepValue, Refusal, due_in, kept, History, answered, no_history, SessionState, bytes_are_counted, ByteSet, HasNoCollisions, Stop, CoreStep, StaysOrStops, FileEvent, FileStep, IsRootOf, CoreState, Event, Replied, Asked, step_of, FileMachine, RunState, Running, Stopped, of_files, Store, ChangesBytes, IsAtFiles, IsReady, FileDesk, HoldsKept, Kept, SameSessions}
 use Rattle.std.proofs.Common.{slice_index_or}
-use Rattle.std.specs.FinMap as finite
-use Rattle.merkle_file.specs.Node as node
 use Rattle.actor_parts.specs.declared.part.Part as core_part
-use Rattle.actor_parts.specs.declared.part.Part.TheVariants as core_parts
-use Rattle.actor_parts.specs.declared.step.Answer.TheVariants as answers
-use Rattle.actor_parts.specs.Kinds as core_kinds
 use Rattle.actor_parts.specs.Parts.{part_of}
 use Rattle.actor_parts.specs.StepValue as steps
 use Rattle.actor_parts.specs.StepValue.{IsStep}
 use Rattle.refusals.specs.declared.refusal.Refusal.TheVariants as refusals
-use Rattle.ingest_session.specs.declared.due.Due.TheVariants as dues
-use Rattle.ingest_session.specs.Due.{segments_of_all}
-use Rattle.ingest_session.specs.Facts.{MayFollow}
-use Rattle.ingest_session.proofs.Offered.{offered_are_pieces}
-use Rattle.ingest_session.proofs.SealsSome.{offer_kinds}
-use Rattle.ingest_session.proofs.Waiting.{session_of}
-use Rattle.store_model.specs.Collisions.{IsAmong, IsIn}
-use Rattle.store_core.specs.Keeping.{IsHeldIn}
-use Rattle.store_core.specs.Runs.{AreAmong, IsGivenRight, IsRightCommit}
+use Rattle.store_model.specs.Collisions.{IsIn}
+use Rattle.store_core.specs.Runs.{AreAmong, IsGivenRight}
+use Rattle.store_core.proofs.CoreRuns.{was_running}
+use Rattle.session_turns.specs.Owning.{IsAskedFor, IsBeside, IsCutOf, StepsAt}
+use Rattle.session_turns.proofs.TurnSteps.{claim_among, seal_among}
+use Rattle.session_turns.proofs.HeldOn.{holds_begun, holds_beside, holds_turned}
+use Rattle.session_turns.proofs.RightRoot.{commit_right, ready_root_is_right}
 use Rattle.store_machine.specs.Asked as asked_of
 use Rattle.store_machine.specs.Forgetting.{SameParts, SameState}
 use Rattle.store_machine.specs.Machine.{Found, Idle, Part, Reading, Writing, kind_of}
-use Rattle.store_machine.proofs.OfOneKind.{each_of}
-use Rattle.core_machine.specs.Files.{FitsBy, IsFileMachine, IsOfFile, IsOfFound, MayStand}
+use Rattle.core_machine.specs.Files.{FitsBy, IsFileMachine, IsOfFile, IsOfFound, MayStand, stored_in}
 use Rattle.core_machine.proofs.FileCrashes.{stands_found}
 use Rattle.core_machine.proofs.FileOpened.{files_opened, files_reopened_not}
 use Rattle.core_machine.proofs.FileStands.{disk_stands}
 use Rattle.core_machine.proofs.FilesRefined.{refined}
-use Rattle.script_runner.specs.LinesAreFileRuns.{BeginsAtFileDesk, IsCutBy, IsCutOf, LinesAreFileRuns, OpenedIsAtDesk, OwnsKept, ScriptsAreFileRuns, beside_files}
+use Rattle.script_runner.specs.LinesAreFileRuns.{BeginsAtFileDesk, IsCutBy, LinesAreFileRuns, OpenedIsAtDesk, OwnsKept, ScriptsAreFileRuns, beside_files}
 use Rattle.script_runner.proofs.DeskLines.{AllowedBy, line_runs, part_kinds, runs_by, script_runs, stops_by}
-use Rattle.script_runner.proofs.DeskParts.{KeepsWriting, others_stay, quiet_keeps, refused_keeps}
 use Rattle.script_runner.proofs.DeskReopens.{idle_give, opened_parts, opened_runs}
 use Rattle.script_runner.proofs.DeskSessions.{none_same}
-use Rattle.script_runner.proofs.FileHeld.{held_by, holds_on, kept_then}
-use Rattle.script_runner.proofs.FileTurns.{turned_then}
-use Rattle.script_runner.proofs.Fitting.{Fitted, Fitting, HasTaken, IsAskedFor, IsOfGiven, IsUnmade, Keeps}
+use Rattle.script_runner.proofs.Fitting.{Fitted, Fitting, HasTaken, IsOfGiven, IsUnmade, Keeps}
 use Rattle.script_runner.proofs.StillHeld.{still_held}
-use Rattle.ingest_session.proofs.KeptPieces.{data_piece}
-use Rattle.script_runner.proofs.RightRoot.{right_root}
-
--- what is offered is a piece of the file
-offered_piece : (file : List ℕ) (n : Option node.Contents) (queue : List (List ℕ)) (seg : KindSegment) → IsItem n queue seg → AllByRecursion (IsPieceOf file) (turn_of n queue) →
-    HasPieceOf file seg
-offered_piece file (Some n) queue seg is all = (Node n, all.0, is)
-offered_piece file None [] seg is all = absurd is
-offered_piece file None (x ∷ xs) seg is all = (Data x, all.0, is)
 
 -- ---- what is so of the machine of roots
 
@@ -90,33 +70,6 @@ module _ (C : Type 0) (state : C → CoreState) (among : ByteSet) (distinct : Ha
   abbrev Allowed : List ℕ → Bool → Type 0
   Allowed given ended = (bytes : List ℕ) → IsCutOf given ended bytes → S bytes
 
-  -- what a session claims and seals are pieces of each file that goes on from what it took
-  module _ (P : Kept → Type 0) (given : List ℕ) (x : SessionState) (taken : HasTaken Allowed P given x) where
-    abbrev Each : KindSegment → Type 0
-    Each seg = (more : List ℕ) → MayFollow more x → HasPieceOf (given ++ more) seg
-
-    by_given : (seg : KindSegment) → ((more : List ℕ) → MayFollow more x → HasPieceOf (taken.history.given ++ more) seg) → Each seg
-    by_given seg each more may = subst (λ (l : List ℕ). HasPieceOf (l ++ more) seg) taken.given_is (each more may)
-
-    are_among : (kind : Kind) (y : Segment) → Each (of_kind kind y) → IsAmong S kind y.bytes
-    are_among Leaf y each = taken.allowed y.bytes (λ more may. (data_piece (given ++ more) y (each more may)).0)
-    are_among Tree y each = tt
-
-    claim_among : (seg : KindSegment) → IsOffered x seg → IsAmong S seg.kind seg.segment.bytes
-    claim_among seg offered = are_among seg.kind seg.segment
-        (by_given seg (λ more may. offered_piece (taken.history.given ++ more) (turn_node x) x.queue seg offered.is (turns_are_pieces x taken.history more taken.has may)))
-
-    offered_among : (kind : Kind) → AllByRecursion (λ y. IsAmong S kind y.bytes) (segments_of_all (offered_in x kind))
-    offered_among kind = all_of (λ y. IsAmong S kind y.bytes) (segments_of_all (offered_in x kind))
-        (λ y is. are_among kind y (by_given (of_kind kind y)
-        (λ more may. one_of (λ z. HasPieceOf (taken.history.given ++ more) (of_kind kind z)) (segments_of_all (offered_in x kind)) y
-        (offered_are_pieces x taken.history more taken.has may kind) is)))
-
-    seal_among : (offered : List Contents) (kind : Kind) → offered ≡ offered_in x kind → AreAmong S offered
-    seal_among offered kind is =
-        subst (AreAmong S) (sym is)
-        (each_of (λ k y. IsAmong S k y.bytes) kind (offered_in x kind) (offer_kinds x kind (session_of x taken.history taken.has)) (offered_among kind))
-
   -- ---- a machine that fits
 
   module _ (m : FileMachine) (c : CoreState) (fits : IsFileMachine S m c) where
@@ -131,41 +84,33 @@ module _ (C : Type 0) (state : C → CoreState) (among : ByteSet) (distinct : Ha
         let so = stops_by fits.roots.acknowledged fits.roots.state c.stop stop fits.machine.state is in
         (files_stop m.state fits.roots.state so.0.0 so.0.1 fits.forgets.state so.0.2, so.1 ∙ fits.forgets.acknowledged)
 
-    -- the root of a file of which all is kept is right
-    root_right : (a : ℕ) (given : List ℕ) (x : SessionState) (root : Root) → HasTaken Allowed (λ k. OwnsKept a k m c) given x → IsReady root x
-        → root ≡ root_of given → c.stop ≡ None → IsRootOf root given c
-    root_right a given x root taken ready root_is none =
-        let own = taken.owns.1 none in
-        let ends = all_is_kept x taken.history taken.has ready.ended ready.done in
-        let few : length given ≤ MOST_FILE = subst (λ (l : List ℕ). length l ≤ MOST_FILE) taken.given_is (bytes_are_counted x taken.history taken.has).1 in
-        let known = (at_files none).is_at.stands.known in
-        subst (λ (r : Root). IsRootOf r given c) (sym root_is)
-        (right_root given few c (λ p is. own.held (piece_segment p).kind (piece_segment p).segment (ends.kept p (subst (λ (l : List ℕ). IsPieceOf l p) (sym taken.given_is) is)))
-        known.0 known.1)
-
-  right_commit : (answer : Result Answer Refusal) (root : Root) (given : List ℕ) (c : CoreState) → IsRootOf root given c → IsRightCommit answer root given c
-  right_commit (Ok answer) root given c right = right
-  right_commit (Err refusals.DiskWrite) root given c right = right
-  right_commit (Err refusal) root given c right = tt
-
   -- ---- a step
 
   module _ (e : Event) (given : List ℕ) (old new : C) (m : FileMachine) (fits : IsFileMachine S m (state old)) where
     abbrev f : FileEvent
     f = record { event = e; bytes = given }
 
-    commit_by : (root : Root) (stop : Option Stop) → (state old).stop ≡ stop → ((state old).stop ≡ None → IsRootOf root given (state old)) → StepsOr stop e (state old) (state new)
-        → IsRightCommit e.answer root given (state old)
-    commit_by root None none right step = right_commit e.answer root given (state old) (right none)
-    commit_by root (Some stop) stopped right step = subst (λ (answer : Result Answer Refusal). IsRightCommit answer root given (state old)) (sym step.answer_is) tt
+    abbrev Took : SessionState → Type 0
+    Took x = HasTaken Allowed (λ k. OwnsKept e.actor k m (state old)) given x
+
+    cut_of : (x : SessionState) (taken : Took x) → Allowed taken.history.given x.ended
+    cut_of x taken = subst (λ (l : List ℕ). Allowed l x.ended) (sym taken.given_is) taken.allowed
+
+    -- the root of a file of which all is kept is right
+    root_right : (x : SessionState) (root : Root) → Took x → IsReady root x → (state old).stop ≡ None → IsRootOf root given (state old)
+    root_right x root taken ready none =
+        subst (λ (l : List ℕ). IsRootOf root l (state old)) taken.given_is
+        (ready_root_is_right C state among m.store (stored_in m.now) e.actor x taken.history root old (at_files m (state old) fits none).is_at taken.has ready.ready
+        (taken.owns.1 none))
 
     given_by : (step : StepValue) → IsOfGiven Allowed (λ k. OwnsKept e.actor k m (state old)) step given → CoreStep (state old) e (state new)
         → IsStep step × IsGivenRight S step e.answer given (state old) × IsOfFile step given
-    given_by (steps.Claim seg) right step = (right.2.right, claim_among (λ k. OwnsKept e.actor k m (state old)) given right.0 right.1 seg right.2, tt)
-    given_by (steps.Seal offered) right step = (right.3, seal_among (λ k. OwnsKept e.actor k m (state old)) given right.0 right.2 offered right.1 right.4, tt)
+    given_by (steps.Claim seg) right step = (right.2.right, claim_among S right.0 right.1.history right.1.has (cut_of right.0 right.1) seg right.2, tt)
+    given_by (steps.Seal offered) right step =
+        (right.3, subst (AreAmong S) (sym right.4) (seal_among S right.0 right.2.history right.2.has (cut_of right.0 right.2) right.1), tt)
     given_by (steps.Commit name root) right step = (
       tt,
-      commit_by root (state old).stop refl (root_right m (state old) fits e.actor given right.0 root right.1 right.2 right.3) step,
+      commit_right (state old).stop e root given (state old) (state new) refl (root_right right.0 root right.1 right.2) step,
       (right.3, subst (λ (l : List ℕ). length l ≤ MOST_FILE) right.1.given_is (bytes_are_counted right.0 right.1.history right.1.has).1),
     )
     given_by steps.Begin right step = (tt, tt, tt)
@@ -179,71 +124,38 @@ module _ (C : Type 0) (state : C → CoreState) (among : ByteSet) (distinct : Ha
     given_by steps.GcStep right step = (tt, tt, tt)
     given_by steps.Stat right step = (tt, tt, tt)
 
-    -- one that runs after it ran before
-    ran_by : (stop : Option Stop) → (state old).stop ≡ stop → (state new).stop ≡ None → StepsOr stop e (state old) (state new) → (state old).stop ≡ None
-    ran_by None is stays step = is
-    ran_by (Some stop) is stays step = sym step.same.stop_is ∙ stays
-
     module _ (n : FileMachine) (made : FileStep S f (state old) (state new)) where
       ran : (state new).stop ≡ None → (state old).stop ≡ None
-      ran stays = ran_by (state old).stop refl stays made.made
+      ran stays = was_running (state old).stop e (state old) (state new) refl made.made stays
 
-      -- an actor owns still what it owned, where it stores a file as before
-      owns_on : (b : ℕ) (k : Kept) → KeepsWriting b (state old).parts (state new).parts → OwnsKept b k m (state old) → OwnsKept b k n (state new)
-      owns_on b k keeps own = (
-        own.0,
-        λ stays.
-            let was = own.1 (ran stays) in
-            holds_on C state among distinct f old new m (at_files m (state old) fits (ran stays)) made stays b k own.0 (keeps (ap core_kinds.kind_of was.writing)) was,
-      )
+      steps_at : (state new).stop ≡ None → StepsAt S f m.store (stored_in m.now) (state old) (state new)
+      steps_at stays = let at = at_files m (state old) fits (ran stays) in record { is_at = at.is_at; settled = at.settled; step = made; runs_on = stays }
 
-      begun_row : (answer : Answer) → BeginRow e.actor (Ok answer) (state old) (state new) → e.actor < ACTORS → length (state old).parts ≡ ACTORS
-          → HoldsKept e.actor (kept no_history) (state new)
-      begun_row answers.Begun row below many = record {
-        pins = finite.empty;
-        writing = ap (λ (parts : List core_part.Part). part_of parts e.actor) row.1
-            ∙ apart.same (state old).parts e.actor (core_parts.Writing finite.empty) (omega (arith, below, many));
-        held = λ kind y there. absurd (in_none y there);
-        pinned = λ kind y there. absurd (in_none y there);
-      }
-      begun_row answer row below many = absurd row
+      -- an actor owns still what it owned, after a step beside its file
+      owns_on : (b : ℕ) (k : Kept) → IsBeside b e → OwnsKept b k m (state old) → OwnsKept b k n (state new)
+      owns_on b k beside own =
+          (own.0, λ stays. holds_beside C state among f m.store (stored_in m.now) b k old new distinct (steps_at stays) own.0 beside (own.1 (ran stays)))
 
       begun : (answer : Answer) → e.actor < ACTORS → e.step ≡ steps.Begin → e.answer ≡ Ok answer → OwnsKept e.actor (kept no_history) n (state new)
       begun answer below step_is answer_is = (
         below,
-        λ stays.
-            let row = (running_step (state old) (state new) e (ran stays) made.made).made.row in
-            begun_row answer
-            (subst (λ (told : Result Answer Refusal). BeginRow e.actor told (state old) (state new)) answer_is
-            (subst (λ (step : StepValue). Row step e.actor e.answer e.buf (state old) (state new)) step_is row)) below
-            (at_files m (state old) fits (ran stays)).is_at.many,
+        λ stays. holds_begun C state among f m.store (stored_in m.now) e.actor old new (steps_at stays) below
+            (record { actor_is = refl; step_is = step_is; answer = answer; answer_is = answer_is }),
       )
-
-      no_gc : (x : SessionState) (due : Due) (step : StepValue) → IsAskedFor due x step → IsNoGcStep step
-      no_gc x dues.Claim (steps.Claim seg) asked = tt
-      no_gc x (dues.Seal kind) (steps.Seal filled) asked = tt
-      no_gc x due step asked = absurd asked
 
       turned : (x : SessionState) (h : History) (answer : Answer) → HasHistory x h → IsAskedFor (due_in x) x e.step → e.answer ≡ Ok answer → OwnsKept e.actor (kept h) m (state old)
           → OwnsKept e.actor (kept (answered answer x h)) n (state new)
       turned x h answer has asked answer_is own = (
         own.0,
-        λ stays.
-            let at = at_files m (state old) fits (ran stays) in
-            let row = (running_step (state old) (state new) e (ran stays) made.made).made.row in
-            let other = no_gc x (due_in x) e.step asked in
-            turned_then (state old) (state new) e.actor own.0 at.is_at.many x h (own.1 (ran stays))
-            (held_by C state among distinct f old new m at made stays other) has e.step answer e.buf asked
-            (subst (λ (told : Result Answer Refusal). Row e.step e.actor told e.buf (state old) (state new)) answer_is row)
-            (subst (λ (told : Result Answer Refusal). AllByRecursion (λ seg. IsHeldIn seg (state new)) (kept_by e.step told)) answer_is
-            (kept_then C state among distinct f old new m at made stays other)),
+        λ stays. holds_turned C state among f m.store (stored_in m.now) e.actor x h answer old new distinct (steps_at stays) own.0 has
+            (record { actor_is = refl; is_due = asked; answer_is = answer_is }) (own.1 (ran stays)),
       )
 
       keeps : Keeps OwnsKept e m n (state old) (state new)
       keeps = record {
-        others = λ b k differs own. owns_on b k (λ writes. others_stay e (state old) (state new) made.made b differs) own;
-        quiet = λ k quiet own. owns_on e.actor k (quiet_keeps e (state old) (state new) quiet made.made) own;
-        refused = λ k refusal is own. owns_on e.actor k (refused_keeps e (state old) (state new) refusal is made.made) own;
+        others = λ b k differs own. owns_on b k (inl differs) own;
+        quiet = λ k quiet own. owns_on e.actor k (inr (inr quiet)) own;
+        refused = λ k refusal is own. owns_on e.actor k (inr (inl (refusal, is))) own;
         begun = begun;
         turned = λ x h answer has asked is told own. turned x h answer has asked is own;
       }

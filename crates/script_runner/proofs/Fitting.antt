@@ -1,18 +1,15 @@
 -- What a relation of machines and cores is to give for lines over a core to be lines of the machine.
-use Rattle.script_runner.proofs.Prelude.{◌≡◌, ◌≢◌, ◌⊎◌, ◌<◌, ◌≤◌, ℕ, Bool, List, Some, None, Ok, Err, CrashLeaves, DiskView, IsLater, ACTORS, Answer, StepValue, Kind, Refusal, Memory, Due, due_in, offered_in, kept, History, HasHistory, answered, no_history, IsOffered, SessionState, root_of, Stop, CoreStep, OpensCore, OpensNone, StaysOrStops, CoreState, Event, IsRunning, Asked, Legal, LineValue, ReplyValue, Desk, step_of, Machine, Running, Stopped, part_in, Values, answered_by, asked_as, IsReady, RunnerState, Beside, Kept}
+use Rattle.script_runner.proofs.Prelude.{◌≡◌, ◌≢◌, ◌⊎◌, ◌<◌, ◌≤◌, ℕ, Bool, List, Some, None, Ok, Err, CrashLeaves, DiskView, IsLater, ACTORS, Answer, StepValue, Kind, Refusal, Memory, due_in, offered_in, kept, History, HasHistory, answered, no_history, IsOffered, SessionState, root_of, Stop, CoreStep, OpensCore, OpensNone, StaysOrStops, CoreState, Event, IsRunning, Asked, Legal, LineValue, ReplyValue, Desk, step_of, Machine, Running, Stopped, part_in, Values, answered_by, asked_as, IsReady, RunnerState, Beside, IsAskedFor, IsQuiet, Kept}
 use Rattle.std.specs.FinMap as finite
 use Rattle.actor_parts.specs.Kinds as core_kinds
 use Rattle.actor_parts.specs.Parts.{part_of}
 use Rattle.actor_parts.specs.StepValue as steps
 use Rattle.actor_parts.specs.StepValue.{IsStep}
-use Rattle.ingest_session.specs.declared.due.Due.TheVariants as dues
 use Rattle.ingest_session.specs.Told.{told_by}
 use Rattle.store_machine.specs.Asked as asked
-use Rattle.store_machine.specs.Done.{Done}
 use Rattle.store_machine.specs.Done as done
 use Rattle.store_machine.specs.Machine.{kind_of}
 use Rattle.script_runner.specs.LinesAreRuns.{IsAtDesk, LeadsTo}
-use Rattle.script_runner.proofs.DeskParts.{IsQuiet}
 
 -- the session took these bytes, all of the file or not yet, which are allowed, and P holds of what is kept
 pub record HasTaken (Allowed : List ℕ → Bool → Type 0) (P : Kept → Type 0) (given : List ℕ) (x : SessionState) : Type 0 where
@@ -30,12 +27,6 @@ IsOfGiven Allowed P (steps.Seal offered) given =
     (x : SessionState) × (kind : Kind) × HasTaken Allowed P given x × IsStep (steps.Seal offered) × (offered ≡ offered_in x kind)
 IsOfGiven Allowed P (steps.Commit name root) given = (x : SessionState) × HasTaken Allowed P given x × IsReady root x × (root ≡ root_of given)
 IsOfGiven Allowed P step given = Unit {0}
-
--- what is due was asked for
-abbrev pub IsAskedFor : Due → SessionState → StepValue → Type 0
-IsAskedFor dues.Claim x (steps.Claim seg) = IsOffered x seg
-IsAskedFor (dues.Seal kind) x (steps.Seal offered) = offered ≡ offered_in x kind
-IsAskedFor due x step = ⊥
 
 -- A step leaves to all actors what they own, but to one that is done in place of a turn; a file that begins owns nothing, and a turn that
 -- was done what its answer adds.

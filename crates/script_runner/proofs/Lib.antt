@@ -1,4 +1,3 @@
-pub mod CollectHolds
 pub mod DeskGiving
 pub mod DeskLines
 pub mod DeskParts
@@ -11,19 +10,14 @@ pub mod DeskTurnLines
 pub mod DeskTurns
 pub mod FaultsCounted
 pub mod FileFits
-pub mod FileHeld
-pub mod FilePins
-pub mod FileTurns
 pub mod Fitting
 pub mod LaterStores
 pub mod LineSteps
 pub mod LinesFrame
 pub mod Lists
-pub mod NeedsLive
 mod Prelude
 pub mod PushRefused
 pub mod Replied
-pub mod RightRoot
 pub mod RootsFound
 pub mod Sends
 pub mod SessionLists

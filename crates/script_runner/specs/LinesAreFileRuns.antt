@@ -1,18 +1,11 @@
 -- Lines that are run over a core whose disk tells its content, as lines of the machine of files (docs/MODEL.md, 'Scripts').
-use Rattle.std.specs.Prelude.{◌≡◌, ◌⊎◌, ◌<◌, ℕ, Bool, true, List, [], ◌∷◌, ◌++◌, replicate, slice_get, slice_index_or, Option, Some, None, Ok}
+use Rattle.std.specs.Prelude.{◌≡◌, ◌⊎◌, ◌<◌, ℕ, List, [], ◌∷◌, replicate, slice_index_or, Option, Some, None, Ok}
 use Rattle.std.specs.FinMap as finite
 use Rattle.actor_parts.specs.declared.actor.TheConstants.{ACTORS}
-use Rattle.actor_parts.specs.declared.part.Part.TheVariants.{Idle, Writing}
-use Rattle.actor_parts.specs.declared.pins.Pin.{Pin}
-use Rattle.actor_parts.specs.Parts.{part_of}
-use Rattle.actor_parts.specs.PinMap.{PinMap}
+use Rattle.actor_parts.specs.declared.part.Part.TheVariants.{Idle}
 use Rattle.base_model.specs.Known.{KnownWith}
-use Rattle.container_meta.specs.declared.kind.Kind.{Kind}
-use Rattle.container_meta.specs.Segments.{Segment, segment_key}
 use Rattle.dd_disk.specs.View.{DiskView}
 use Rattle.store_model.specs.Collisions.{ByteSet, HasNoCollisions, IsIn}
-use Rattle.store_model.specs.Standing.{IsSegmentOf}
-use Rattle.store_core.specs.Keeping.{IsHeldIn}
 use Rattle.store_core.specs.Opening.{OpensCore}
 use Rattle.store_core.specs.State.{CoreState, IsRunning}
 use Rattle.store_machine.specs.Commands.{Replied, desk}
@@ -24,37 +17,23 @@ use Rattle.store_machine.specs.Values.{of_files}
 use Rattle.core_machine.specs.Bytes.{ChangesBytes}
 use Rattle.core_machine.specs.FileOpenings.{LeavesFound, Reopens, opening}
 use Rattle.core_machine.specs.Files.{IsFileMachine, IsOfFound, MayStand}
+use Rattle.session_turns.specs.Owning.{HoldsKept, IsCutOf, Kept}
 use Rattle.script_runner.specs.Acts.{IsOfActor, RunnerState, RunsLine}
-use Rattle.script_runner.specs.LinesAreRuns.{AllLeadTo, Beside, IsAtDesk, Kept, LeadsTo}
+use Rattle.script_runner.specs.LinesAreRuns.{AllLeadTo, Beside, IsAtDesk, LeadsTo}
 use Rattle.script_runner.specs.Scripts.{AreOfActors, RunsLines}
 
 -- ---- what actors own
 
--- a segment is among these
-abbrev pub IsKeptIn : Kept → Kind → Segment → Type 0
-IsKeptIn kept kind segment = (index : ℕ) × (slice_get (kept kind) index ≡ Some segment)
-
--- An actor stores a file, and each segment that is kept of it each image holds, and the actor has pinned.
-pub record HoldsKept (actor : ℕ) (kept : Kept) (c : CoreState) : Type 0 where
-  pub pins : PinMap
-  pub writing : part_of c.parts actor ≡ Writing pins
-  pub held : (kind : Kind) (x : Segment) → IsKeptIn kept kind x → IsHeldIn (record { kind = kind; segment = x }) c
-  pub pinned : (kind : Kind) (x : Segment) → IsKeptIn kept kind x → (pin : Pin) × (finite.get pins (segment_key kind x) ≡ Some pin)
-
--- so it is unless the core is stopped
+-- An actor holds what is kept of its file, unless the core is stopped.
 abbrev pub OwnsKept : ℕ → Kept → FileMachine → CoreState → Type 0
 OwnsKept actor kept m c = (actor < ACTORS) × (c.stop ≡ None → HoldsKept actor kept c)
 
 -- ---- what is cut
 
--- bytes that are cut by now of a file that begins so: they are a segment of each that goes on from there, or of it if it has ended
-abbrev pub IsCutOf : List ℕ → Bool → List ℕ → Type 0
-IsCutOf given ended bytes = (more : List ℕ) → (ended ≡ true → more ≡ []) → IsSegmentOf (given ++ more) bytes
-
 abbrev pub FileDesk : Type 0
 FileDesk = Desk (List ℕ) (List (List ℕ))
 
--- so they are of a file that some actor of a desk gives
+-- bytes that are cut by now of a file that some actor of a desk gives
 abbrev pub IsCutAt : FileDesk → List ℕ → Type 0
 IsCutAt d bytes = (actor : ℕ) × ((s : Session) × ((slice_index_or d.sessions actor None ≡ Some s) × IsCutOf s.given s.ended bytes))
 

@@ -8,8 +8,6 @@ use Rattle.actor_parts.specs.declared.part.Part.{Part}
 use Rattle.actor_parts.specs.declared.part.Part.TheVariants.{Idle}
 use Rattle.actor_parts.specs.Kinds.{kind_of}
 use Rattle.actor_parts.specs.Parts.{part_of}
-use Rattle.container_meta.specs.declared.kind.Kind.{Kind}
-use Rattle.container_meta.specs.Segments.{Segment}
 use Rattle.merkle_file.specs.declared.top.Top.{Top}
 use Rattle.refusals.specs.declared.refusal.PartKind.TheVariants.{Writing}
 use Rattle.ingest_session.specs.Facts.{kept}
@@ -19,6 +17,7 @@ use Rattle.script_lines.specs.Grammar as lines
 use Rattle.script_lines.specs.ReplyValue as replies
 use Rattle.store_core.specs.Opening.{IsReadFrom}
 use Rattle.store_core.specs.State.{CoreState, IsRunning}
+use Rattle.session_turns.specs.Owning.{Kept}
 use Rattle.store_machine.specs.Commands.{Lines, Replied, desk, run_of}
 use Rattle.store_machine.specs.Lines.{Desk, Line, Session}
 use Rattle.store_machine.specs.Machine.{Machine, Stepped}
@@ -32,10 +31,6 @@ use Rattle.script_runner.specs.Sessions.{Sessions, session_of}
 use Rattle.script_runner.specs.Shown.{WasOpened, WasShown}
 
 -- ---- sessions
-
--- what answers say to be kept of a file, by kinds
-abbrev pub Kept : Type 0
-Kept = Kind → List Segment
 
 -- The session took these bytes, all of the file or not yet, and was told these answers; P holds of what is kept.
 pub record IsSessionOf (P : Kept → Type 0) (s : Session) (x : SessionState) : Type 0 where

@@ -143,8 +143,8 @@ fn reply_delete<C: HasState>(
     buf: &mut SegBuf,
 ) -> Result<Vec<u8>, AllocError>
     requires running { IsRunning (C.state core.old) }
-    ensures made { (sessions : Sessions) → ActsWith C C.state (grammar.Delete name.now) (λ reply. Prints (λ text. text.items) result reply)
-        (runner_of core.old sessions) (runner_of core.new sessions) }
+    ensures made { (sessions : Sessions) → ActsWith C C.state (grammar.Delete name.now)
+        (λ reply. Prints (λ text. text.items) result reply) (runner_of core.old sessions) (runner_of core.new sessions) }
     ensures running { IsRunning (C.state core.new) }
 {
     match delete(alloc, core, name, buf) {

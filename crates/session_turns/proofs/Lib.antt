@@ -1,2 +1,11 @@
+pub mod CollectHolds
+pub mod TurnSteps
+pub mod HeldOn
+pub mod Ingested
+pub mod KeptPins
+mod Prelude
 pub mod Results
+pub mod RightRoot
+pub mod TurnHolds
 pub mod TurnRuns
+pub mod WritingStays

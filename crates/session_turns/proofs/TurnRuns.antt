@@ -1,5 +1,5 @@
 -- Turns of a session, one after the other.
-use Rattle.std.proofs.Common.{◌≡◌, ◌∙◌, ◌<◌, ℕ, List, [], ◌∷◌, ◌++◌, Option, Some, None, Ok, Err, refl, sym, subst, append_assoc}
+use Rattle.std.proofs.Common.{◌≡◌, ◌<◌, ℕ, List, [], ◌∷◌, ◌++◌, Option, Some, None, Ok, Err, refl, sym, subst, append_assoc}
 use Rattle.std.proofs.lemmas.List.{append-nil}
 use Rattle.container_meta.specs.Segments.{KindSegment}
 use Rattle.container_meta.specs.declared.kind.Kind.{Kind}
@@ -92,7 +92,7 @@ pause_then_turn actor answer s t u old new pause turn = record {
 pause_stays : (s t : SessionState) → IsPaused s t → Stays s t
 pause_stays s t pause = record { ended = pause.keeps.ended; count = pause.keeps.count }
 
-turn_stays : (actor : ℕ) (answer : Answer) (s t : SessionState) (old new : CoreState) → IsTurn actor answer s t old new → Stays s t
+pub turn_stays : (actor : ℕ) (answer : Answer) (s t : SessionState) (old new : CoreState) → IsTurn actor answer s t old new → Stays s t
 turn_stays actor answer s t old new turn =
     after s turn.before t (pause_stays s turn.before turn.paused) (subst (Stays turn.before) (sym turn.told) (told answer turn.before))
 

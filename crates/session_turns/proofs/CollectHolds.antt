@@ -1,7 +1,8 @@
 -- What actors have pinned is held still after a step of a collection.
 use Rattle.store_model.proofs.Copies.{some_same}
-use Rattle.script_runner.proofs.Prelude.{◌≡◌, inr, ◌<◌, ℕ, List, [], Some, Result, sym, ◌∙◌, subst, PlaceMap, KindSegment, segment_key, slot_at, ACTORS, Pin, Answer, PinMap, pin_of, Refusal, Stored, Store, HasKey, IsStoreOf, FileEvent, IsAt, CoreState}
+use Rattle.session_turns.proofs.Prelude.{◌≡◌, inr, ◌<◌, ℕ, List, [], Some, Result, sym, ◌∙◌, subst, PlaceMap, KindSegment, segment_key, slot_at, ACTORS, Pin, Answer, PinMap, pin_of, Refusal, Stored, Store, HasKey, IsStoreOf, FileEvent, IsAt, CoreState}
 use Rattle.std.specs.FinMap as finite
+use Rattle.std.specs.List.{Contains}
 use Rattle.actor_parts.specs.declared.part.Part.TheVariants as core_parts
 use Rattle.actor_parts.specs.declared.part.Part as core_part
 use Rattle.actor_parts.specs.Parts.{part_of}
@@ -9,7 +10,9 @@ use Rattle.actor_parts.specs.StepValue as asked
 use Rattle.gc_steps.specs.Roots.{IsPartKey}
 use Rattle.gc_steps.specs.Safety.{IsNeeded}
 use Rattle.gc_steps.proofs.PinnedTrees.{pinned_whole}
+use Rattle.gc_steps.proofs.RootTrees.{root_there}
 use Rattle.segment_index.specs.Changes.{SameBefore}
+use Rattle.store_model.specs.Reserve.{tree_keys}
 use Rattle.store_model.specs.Trees.{HasNewest}
 use Rattle.store_model.proofs.FramedTrees.{newest_framed}
 use Rattle.store_model.proofs.SameIndex.{same_copies}
@@ -18,7 +21,6 @@ use Rattle.store_state.specs.Settled.{IsSettled}
 use Rattle.store_core.specs.Keeping.{IsHeldIn}
 use Rattle.store_core.proofs.Leading.{Leads}
 use Rattle.store_core.proofs.OwnParts.{all_part}
-use Rattle.core_machine.proofs.CollectTakes.{root_within}
 
 -- ---- a segment that each image holds
 
@@ -92,6 +94,7 @@ module _ (S : List ℕ → Type 0) (s : Store) (stored : Stored) (old new : Core
         IsNeeded s old.parts image key
     pin_needed pins key pin is found =
         let whole = pinned_whole at.index s stored.files image holds pins (held_as (core_parts.Writing pins) is) key pin found in
+        let top = root_there whole.whole key whole.root_is in
         record {
           root = key;
           is_root = inr (actor, (below, subst (λ (part : core_part.Part). IsPartKey part key) (sym is) (pin, found)));
@@ -99,5 +102,5 @@ module _ (S : List ℕ → Type 0) (s : Store) (stored : Stored) (old new : Core
           right = whole.right;
           is_held = whole.is_held.tree_is_held;
           root_is = whole.root_is;
-          within = root_within whole.whole key whole.root_is;
+          within = subst (Contains (tree_keys whole.whole)) (sym top.1) top.2;
         }

@@ -1,5 +1,5 @@
 -- What an actor has kept of a file is held and pinned still, once the answer to a turn is told.
-use Rattle.script_runner.proofs.Prelude.{kept_sealed, ACTORS, AllByRecursion, Answer, Claim, Contents, CoreState, Due, History, HoldsKept, IsOffered, Kind, KindSegment, List, Nothing, Ok, PinMap, Row, Seal, Segment, SessionState, StepValue, [], answered, ap, apart, arith, due_in, inl, inr, item_is, kept, kept_absent, kept_by, kept_held, length, of_kind, one_item, offered_in, pin_of, refl, segment_key, subst, sym, turn_node, HasHistory, ℕ, ◌<◌, ◌≤◌, ◌∙◌, ◌∷◌, ◌≡◌}
+use Rattle.session_turns.proofs.Prelude.{kept_sealed, ACTORS, AllByRecursion, Answer, Claim, Contents, CoreState, Due, History, HoldsKept, IsAskedFor, IsOffered, in_none, one_of, Kind, KindSegment, List, Ok, PinMap, Row, Seal, Segment, SessionState, StepValue, [], answered, ap, apart, arith, due_in, inl, inr, item_is, kept, kept_absent, kept_by, kept_held, length, of_kind, one_item, offered_in, pin_of, refl, segment_key, subst, sym, turn_node, HasHistory, ℕ, ◌<◌, ◌∙◌, ◌∷◌, ◌≡◌}
 use Rattle.std.specs.FinMap as finite
 use Rattle.actor_parts.specs.declared.part.Part as core_part
 use Rattle.actor_parts.specs.declared.part.Part.TheVariants as core_parts
@@ -11,28 +11,29 @@ use Rattle.ingest_session.specs.declared.due.Due.TheVariants as dues
 use Rattle.ingest_session.specs.History.{item_if}
 use Rattle.ingest_session.specs.Items.{item_of}
 use Rattle.ingest_session.specs.Due.{segments_of_all}
-use Rattle.ingest_session.proofs.Members.{IsIn, all_after, all_before}
+use Rattle.ingest_session.proofs.Members.{IsIn, all_after, all_before, in_either}
 use Rattle.ingest_session.proofs.SealsSome.{offer_kinds}
 use Rattle.ingest_session.proofs.Waiting.{session_of}
 use Rattle.ingest_steps.specs.Offering.{with_pins_of}
-use Rattle.store_machine.specs.Offers.{AllSegments}
-use Rattle.store_machine.proofs.OfOneKind.{AreOf, all_taken, one_of_all}
 use Rattle.store_core.specs.Keeping.{IsHeldIn, segments_in}
-use Rattle.script_runner.proofs.FilePins.{HasPin, pin_now, pin_on, pins_now_all, pins_on_all}
-use Rattle.script_runner.proofs.Fitting.{IsAskedFor}
+use Rattle.store_core.proofs.ManySealed.{all_taken}
+use Rattle.session_turns.proofs.KeptPins.{HasPin, pin_now, pin_on, pins_now_all, pins_on_all}
 use Rattle.std.proofs.Common.{map, take}
 
 unmapped : {A B : Type 0} (P : B → Type 0) (f : A → B) (xs : List A) → AllByRecursion P (map f xs) → AllByRecursion (λ x. P (f x)) xs
 unmapped P f [] all = tt
 unmapped P f (x ∷ xs) all = (all.0, unmapped P f xs all.1)
 
--- of what containers have, one after the other
-each_in : (P : KindSegment → Type 0) (cs : List Contents) → AllByRecursion P (segments_in cs) → AllSegments (λ k y. P (of_kind k y)) cs
-each_in P [] all = tt
-each_in P (c ∷ cs) all = (
-  unmapped P (of_kind c.kind) c.segments (all_before P (map (of_kind c.kind) c.segments) (segments_in cs) all),
-  each_in P cs (all_after P (map (of_kind c.kind) c.segments) (segments_in cs) all),
-)
+-- P holds of each segment of containers of one kind
+one_in : (P : KindSegment → Type 0) (kind : Kind) (cs : List Contents) → AllByRecursion (λ c. c.kind ≡ kind) cs → AllByRecursion P (segments_in cs) → (y : Segment)
+    → IsIn y (segments_of_all cs) → P (of_kind kind y)
+one_in P kind [] are all y there = absurd (in_none y there)
+one_in P kind (c ∷ cs) are all y there = elim (in_either c.segments (segments_of_all cs) y there) [
+  | inl here ↦
+      let first = unmapped P (of_kind c.kind) c.segments (all_before P (map (of_kind c.kind) c.segments) (segments_in cs) all) in
+      subst (λ (k : Kind). P (of_kind k y)) are.0 (one_of (λ x. P (of_kind c.kind x)) c.segments y first here)
+  | inr later ↦ one_in P kind cs are.1 (all_after P (map (of_kind c.kind) c.segments) (segments_in cs) all) y later
+]
 
 same_pins : (a b : PinMap) → core_parts.Writing a ≡ core_parts.Writing b → a ≡ b
 same_pins a b is = cc
@@ -87,9 +88,9 @@ module _ (old new : CoreState) (a : ℕ) (below : a < ACTORS) (many : length old
     abbrev sealed : List Contents
     sealed = take count offered
 
-    kinds : AreOf mine sealed
+    kinds : AllByRecursion (λ c. c.kind ≡ mine) sealed
     kinds =
-        subst (λ (cs : List Contents). AreOf mine (take count cs)) (sym offered_is)
+        subst (λ (cs : List Contents). AllByRecursion (λ c. c.kind ≡ mine) (take count cs)) (sym offered_is)
         (all_taken (λ c. c.kind ≡ mine) count (offered_in x mine) (offer_kinds x mine (session_of x h has)))
 
     in_sealed : (y : Segment) → IsIn y (segments_of_all (take count (offered_in x mine))) → IsIn y (segments_of_all sealed)
@@ -97,7 +98,7 @@ module _ (old new : CoreState) (a : ℕ) (below : a < ACTORS) (many : length old
 
     sealed_then : (pins : PinMap) → part_of old.parts a ≡ core_parts.Writing pins
         → new.parts ≡ with_part old.parts a (core_parts.Writing (with_pins_of sealed pins))
-        → AllSegments (λ k y. IsHeldIn (of_kind k y) new) sealed → Then (answers.Sealed id count)
+        → AllByRecursion (λ seg. IsHeldIn seg new) (segments_in sealed) → Then (answers.Sealed id count)
     sealed_then pins was is all = record {
       pins = with_pins_of sealed own.pins;
       writing = as_own pins (with_pins_of sealed) was is;
@@ -105,13 +106,13 @@ module _ (old new : CoreState) (a : ℕ) (below : a < ACTORS) (many : length old
         | inl before ↦ held (of_kind kind y) (own.held kind y before)
         | inr now ↦
             subst (λ (k : Kind). IsHeldIn (of_kind k y) new) (sym now.0)
-            (one_of_all (λ k z. IsHeldIn (of_kind k z) new) mine sealed kinds all y (in_sealed y now.1))
+            (one_in (λ seg. IsHeldIn seg new) mine sealed kinds all y (in_sealed y now.1))
       ];
       pinned = λ kind y there. elim (kept_sealed x h kind y id count mine due there) [
         | inl before ↦ pins_on_all sealed own.pins (segment_key kind y) (own.pinned kind y before)
         | inr now ↦
             subst (λ (k : Kind). HasPin (with_pins_of sealed own.pins) (segment_key k y)) (sym now.0)
-            (one_of_all (λ k z. HasPin (with_pins_of sealed own.pins) (segment_key k z)) mine sealed kinds (pins_now_all sealed own.pins) y (in_sealed y now.1))
+            (pins_now_all mine sealed own.pins kinds y (in_sealed y now.1))
       ];
     }
 
@@ -123,7 +124,7 @@ module _ (old new : CoreState) (a : ℕ) (below : a < ACTORS) (many : length old
   turned_by has dues.Claim is (steps.Claim seg) answers.Absent buf asked row all = absent_then row.claimed.parts_are
   turned_by has dues.Claim is (steps.Claim seg) answer buf asked row all = absurd row
   turned_by has (dues.Seal mine) is (steps.Seal offered) (answers.Sealed id count) buf asked row all =
-      sealed_then offered mine is asked has id count row.may.pins row.may.writing row.parts_are (each_in (λ seg. IsHeldIn seg new) (take count offered) all)
+      sealed_then offered mine is asked has id count row.may.pins row.may.writing row.parts_are all
   turned_by has (dues.Seal mine) is (steps.Seal offered) answer buf asked row all = absurd row
   turned_by has due is step answer buf asked row all = absurd asked
 

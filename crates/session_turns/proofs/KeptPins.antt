@@ -1,13 +1,13 @@
 -- Keys that are pinned, where more are.
-use Rattle.script_runner.proofs.Prelude.{◌≡◌, ◌∙◌, ℕ, zero, suc, Bool, true, false, cond, List, [], ◌∷◌, Some, refl, sym, ap, subst, slice_cmp, nat_list_cmp_total, nat_cmp, eq_by_cmp, Kind, Segment, segment_key, Pin, PinMap, with_pins, in_none}
+use Rattle.session_turns.proofs.Prelude.{◌≡◌, ◌∙◌, ℕ, zero, suc, Bool, true, false, cond, List, [], ◌∷◌, Some, refl, sym, ap, subst, slice_cmp, nat_list_cmp_total, nat_cmp, eq_by_cmp, Kind, Segment, segment_key, Pin, PinMap, with_pins, in_none, inl, inr, AllByRecursion}
 use Rattle.std.specs.FinMap as finite
 use Rattle.actor_parts.specs.Segments.{pin_by}
 use Rattle.container_meta.specs.Segments.{Contents}
 use Rattle.ingest_steps.specs.Offering.{with_pins_of}
-use Rattle.store_machine.specs.Offers.{AllSegments}
 use Rattle.std.proofs.lemmas.Slice.Eq.{bytes_eq-Decides}
 use Rattle.store_model.proofs.Indexing.{tied}
-use Rattle.ingest_session.proofs.Members.{IsIn, all_of}
+use Rattle.ingest_session.specs.Due.{segments_of_all}
+use Rattle.ingest_session.proofs.Members.{IsIn, in_either}
 
 same_key : (key : List ℕ) → eq_by_cmp (slice_cmp nat_cmp) key key ≡ true
 same_key key = tied key key ∙ (bytes_eq-Decides key key).1 refl
@@ -51,11 +51,12 @@ pub pins_on_all : (cs : List Contents) (pins : PinMap) (key : List ℕ) → HasP
 pins_on_all [] pins key has = has
 pins_on_all (c ∷ cs) pins key has = pins_on_all cs (with_pins c.kind c.segments pins) key (pins_on c.kind c.segments pins key has)
 
-pub pins_now_all : (cs : List Contents) (pins : PinMap) → AllSegments (λ k x. HasPin (with_pins_of cs pins) (segment_key k x)) cs
-pins_now_all [] pins = tt
-pins_now_all (c ∷ cs) pins =
-    let more : PinMap = with_pins c.kind c.segments pins in (
-      all_of (λ x. HasPin (with_pins_of cs more) (segment_key c.kind x)) c.segments
-          (λ x is. pins_on_all cs more (segment_key c.kind x) (pins_now c.kind c.segments pins x is)),
-      pins_now_all cs more,
-    )
+pub pins_now_all : (kind : Kind) (cs : List Contents) (pins : PinMap) → AllByRecursion (λ c. c.kind ≡ kind) cs → (x : Segment) → IsIn x (segments_of_all cs)
+    → HasPin (with_pins_of cs pins) (segment_key kind x)
+pins_now_all kind [] pins are x there = absurd (in_none x there)
+pins_now_all kind (c ∷ cs) pins are x there =
+    let more : PinMap = with_pins c.kind c.segments pins in
+    elim (in_either c.segments (segments_of_all cs) x there) [
+      | inl here ↦ pins_on_all cs more (segment_key kind x) (subst (λ (k : Kind). HasPin more (segment_key k x)) are.0 (pins_now c.kind c.segments pins x here))
+      | inr later ↦ pins_now_all kind cs more are.1 x later
+    ]

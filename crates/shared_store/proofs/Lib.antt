@@ -1,0 +1,5 @@
+pub mod Booking
+pub mod Calling
+pub mod Legality
+pub mod Passing
+pub mod Tellings

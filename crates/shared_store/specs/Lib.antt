@@ -1,0 +1,6 @@
+pub mod Book
+pub mod Calls
+pub mod Histories
+pub mod Made
+pub mod Passes
+pub mod Telling

@@ -1,3 +1,4 @@
+pub mod Asking
 pub mod Buffer
 pub mod Counts
 pub mod Kinds

@@ -1,7 +1,8 @@
 //! The store as those see it who ask for steps.
-ghost use Rattle.std.specs.Prelude.{ℕ, List, Result};
+ghost use Rattle.std.specs.Prelude.{ℕ, List, Result, IfOk};
 ghost use Rattle.refusals.specs.declared.refusal.Refusal.{Refusal};
 ghost use Rattle.actor_parts.specs.declared.step.Answer.{Answer};
+ghost use Rattle.actor_parts.specs.Asking.{IsAnswerTo};
 ghost use Rattle.actor_parts.specs.StepValue.{StepValue, step_value, IsStep};
 ghost use Rattle.actor_parts.specs.Counts.{Counts, is_refused_by, is_end};
 
@@ -25,6 +26,7 @@ pub trait StoreCalls {
     fn ask(&mut self, step: Step<'_>, buf: &mut SegBuf) -> Result<Answer, Refusal>
         requires { IsStep (step_value step) }
         ensures asks { asks self.old (step_value step.entry) result buf.new self.new }
+        ensures fits { IfOk result (λ answer. IsAnswerTo (step_value step.entry) answer) }
         ensures refused { (number : ℕ) → Counts (is_refused_by number result) (refused self.old number) (refused self.new number) }
         ensures ended { Counts (is_end result) (ended self.old) (ended self.new) };
 }

@@ -4,6 +4,7 @@ use mathlib.Core.Logic.{dite}
 use native.Mathlib.Decide.{ℕ_discrete}
 use Rattle.actor_parts.specs.declared.answered.Answered.{Answered}
 use Rattle.actor_parts.specs.declared.step.Answer.{Answer}
+use Rattle.actor_parts.specs.Asking.{Ask, AsksAll}
 use Rattle.actor_parts.specs.StepValue.{StepValue}
 use Rattle.refusals.specs.declared.refusal.Refusal.{Refusal}
 use Rattle.turn_lock.specs.declared.history.Turn.{Turn}
@@ -16,7 +17,7 @@ use Rattle.store_core.specs.State.{CoreState, Event}
 use Rattle.shared_store.specs.Calls.{Called, Calls}
 use Rattle.shared_store.specs.Made.{MakesStep, actor_in, steps_in}
 use Rattle.shared_store.specs.Passes.{PassValue, actor_of}
-use Rattle.shared_store.specs.Telling.{AreTold, Ask, AsksAll, AsksAreTold, Did, Tells, TellsNone, TellsOn, asks_of, event_of, steps_by}
+use Rattle.shared_store.specs.Telling.{AreTold, AsksAreTold, Did, Tells, TellsNone, TellsOn, asks_of, event_of, steps_by}
 
 module _ {C E : Type 0} (actor : E → ℕ) (Makes : E → C → C → Type 0) where
   module _ (x : ℕ) where

@@ -1,9 +1,7 @@
 -- What the turns of a number in a history are (docs/MODEL.md, 'Shared stores').
-use Rattle.std.specs.Prelude.{◌≡◌, ◌≤◌, ℕ, ◌==◌, if◌then◌else◌, MatchBool, List, [], ◌∷◌, ◌++◌, length, map, Some, Result}
+use Rattle.std.specs.Prelude.{◌≡◌, ◌≤◌, ℕ, ◌==◌, if◌then◌else◌, MatchBool, List, [], ◌∷◌, ◌++◌, length, map, Some}
 use Rattle.actor_parts.specs.declared.answered.Answered.{Answered}
-use Rattle.actor_parts.specs.declared.step.Answer.{Answer}
-use Rattle.actor_parts.specs.StepValue.{StepValue}
-use Rattle.refusals.specs.declared.refusal.Refusal.{Refusal}
+use Rattle.actor_parts.specs.Asking.{Ask, Asks, AsksAll}
 use Rattle.turn_lock.specs.declared.history.Turn.{Turn}
 use Rattle.turn_lock.specs.declared.history.View.{View}
 use Rattle.turn_lock.specs.History.{IsHistory, times, turns_by}
@@ -41,24 +39,9 @@ module _ {C E : Type 0} (actor : E → ℕ) (Makes : E → C → C → Type 0) w
 
 -- ---- what a caller asks for
 
--- a step that was asked for, what was answered, and what the buffer then held
-pub record Ask : Type 0 where
-  pub step : StepValue
-  pub answer : Result Answer Refusal
-  pub buf : List ℕ
-
 -- as the step of an actor
 abbrev pub event_of : ℕ → Ask → Event
 event_of actor a = record { actor = actor; step = a.step; answer = a.answer; buf = a.buf }
-
--- what a caller's steps do, as `asks` of StoreCalls
-abbrev pub Asks : Type 0 → Type 1
-Asks S = S → StepValue → Result Answer Refusal → List ℕ → S → Type 0
-
--- these were asked for, the first of them first
-abbrev pub AsksAll : {S : Type 0} → Asks S → S → List Ask → S → Type 0
-AsksAll asks old [] new = new ≡ old
-AsksAll {S} asks old (a ∷ rest) new = (mid : S) × (asks old a.step a.answer a.buf mid × AsksAll asks mid rest new)
 
 module _ {C : Type 0} (state : C → CoreState) where
   -- what a `Caller` asks for

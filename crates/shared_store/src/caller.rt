@@ -9,7 +9,7 @@ use actor_parts::{Answer, Answered, SegBuf, Step, StoreCalls};
 use refusals::Refusal;
 use std::marker::Model;
 use std::sync::Wait;
-use store_core::HasState;
+use store_core::{HasState, an_answer_fits_its_step};
 
 /// A store that is shared, a pass of it, and the leave to wait. Contracts see it as the pass, and what was answered.
 #[derive(Drop)]
@@ -78,6 +78,7 @@ impl<C: HasState, R: Wait> StoreCalls for Caller<'_, C, R> {
         (record { actor = actor_of old.0; step = step; answer = answer; buf = buf }) old.0 new.0 };
 
     fn ask(&mut self, step: Step<'_>, buf: &mut SegBuf) -> Result<Answer, Refusal> {
+        an_answer_fits_its_step::<C>();
         let answer = self.store.call(self.rt, &mut self.pass, step, buf);
         self.answered.count(&answer);
         answer

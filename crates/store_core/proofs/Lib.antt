@@ -12,6 +12,7 @@ pub mod Damage
 pub mod FindingKeys
 pub mod FindingMeanwhile
 pub mod FilledSlots
+pub mod Fitting
 pub mod Flushed
 pub mod Frames
 pub mod GcSteps

@@ -1,5 +1,5 @@
 -- What each step makes of the core of a store, what it answers, and why it is refused (docs/MODEL.md, 'The core').
-use Rattle.std.specs.Prelude.{◌≡◌, ◌≢◌, ℕ, suc, ◌+◌, ◌≤◌, List, [], ◌∷◌, length, take, Option, Some, None, Result, Ok, Err, IfErr, OnOk, OnErr}
+use Rattle.std.specs.Prelude.{◌≡◌, ◌≢◌, ℕ, suc, ◌+◌, ◌≤◌, List, [], ◌∷◌, length, take, Option, Some, None, Result, Ok, Err, IfErr, IfOk, OnOk, OnErr}
 use Rattle.std.specs.FinMap as finite
 use Rattle.std.specs.List.{AllByRecursion}
 use Rattle.base_model.specs.Known.{Known, KnownWith}
@@ -18,6 +18,7 @@ use Rattle.actor_parts.specs.declared.part.Part.{Part}
 use Rattle.actor_parts.specs.declared.part.Part.TheVariants.{Idle, Writing}
 use Rattle.actor_parts.specs.declared.step.Answer.{Answer}
 use Rattle.actor_parts.specs.declared.step.Answer.TheVariants as answers
+use Rattle.actor_parts.specs.Asking.{IsAnswerTo}
 use Rattle.actor_parts.specs.Kinds.{kind_of}
 use Rattle.actor_parts.specs.Offers.{IsOffer}
 use Rattle.actor_parts.specs.Parts.{part_of, with_part}
@@ -388,3 +389,7 @@ StepsOr (Some stop) e old new = AnswersStopped stop.at e old new
 
 abbrev pub CoreStep : CoreState → Event → CoreState → Type 0
 CoreStep old e new = StepsOr old.stop e old new
+
+-- what is answered is of the step that was asked for
+abbrev pub AnswersFit : (C : Type 0) → (C → CoreState) → Type 0
+AnswersFit C state = (e : Event) (old new : C) → CoreStep (state old) e (state new) → IfOk e.answer (IsAnswerTo e.step)

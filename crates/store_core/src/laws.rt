@@ -1,5 +1,6 @@
 //! Laws of steps of a core, one after the other (docs/MODEL.md, 'The core').
 ghost use Rattle.store_core.specs.Bounds.{BoundsSteps};
+ghost use Rattle.store_core.specs.Core.{AnswersFit};
 ghost use Rattle.store_core.specs.Finding.{FindsKeys, FindsKeysMeanwhile, OnlyReadsBeforeSweep};
 ghost use Rattle.store_core.specs.Frame.{AddsAlone, ReserveStays, WrittenStays};
 ghost use Rattle.store_core.specs.Keeping.{KeepsSegments, StaysHeld};
@@ -45,4 +46,9 @@ pub fn a_core_keeps_what_is_written<C: HasState>()
     ensures added { AddsAlone C C.state }
     ensures moments { WrittenStays C C.state }
     ensures reserve { ReserveStays C C.state }
+{}
+
+/// What a core answers is of the step that was asked for. The function does nothing.
+pub fn an_answer_fits_its_step<C: HasState>()
+    ensures { AnswersFit C C.state }
 {}

@@ -11,7 +11,7 @@ mod stop;
 
 pub use laws::{
     a_core_bounds_collections, a_core_finds_all_keys, a_core_keeps_segments,
-    a_core_keeps_what_is_written, a_core_runs_on,
+    a_core_keeps_what_is_written, a_core_runs_on, an_answer_fits_its_step,
 };
 pub use running::Core;
 pub use solo::Solo;

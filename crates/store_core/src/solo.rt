@@ -3,6 +3,7 @@ ghost use Rattle.std.specs.Prelude.{◌≡◌, ℕ, get_or};
 ghost use Rattle.store_core.specs.Core.{CoreStep};
 ghost use Rattle.store_core.specs.State.{IsRunning};
 
+use crate::laws::an_answer_fits_its_step;
 use crate::state::HasState;
 use actor_parts::{Actor, Answer, Answered, SegBuf, Step, StoreCalls};
 use refusals::Refusal;
@@ -66,6 +67,7 @@ impl<C: HasState> StoreCalls for Solo<C> {
         (C.state new.0.0) };
 
     fn ask(&mut self, step: Step<'_>, buf: &mut SegBuf) -> Result<Answer, Refusal> {
+        an_answer_fits_its_step::<C>();
         let answer = self.core.make_step(self.actor, step, buf);
         self.answered.count(&answer);
         answer

@@ -1,2 +1,3 @@
 pub mod Owning
+pub mod Turning
 pub mod Turns

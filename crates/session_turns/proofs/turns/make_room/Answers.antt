@@ -2,7 +2,7 @@ use Rattle.std.proofs.Common.{◌≡◌, ◌∙◌, ◌<◌, ℕ, Result, [], ar
 use Rattle.refusals.specs.declared.refusal.Refusal.{Refusal}
 use Rattle.ingest_session.specs.declared.queue.TheConstants.{MOST_WAITING}
 use Rattle.ingest_session.specs.Settling.{seen}
-use Rattle.session_turns.specs.Turns.{MakesRoom}
+use Rattle.session_turns.specs.Turning.{MakesRoomBy, maker_of}
 use Rattle.session_turns.proofs.Results.{by_error}
 use Rattle.session_turns.proofs.TurnRuns.{paused_still, room_then_any, room_then_stop}
 use Rattle.session_turns.proofs.turns.make_room.Goals as goal
@@ -13,20 +13,20 @@ crowded queued waiting is more = omega (arith, is, more)
 
 pub returns-in_err-make_turn-clause-turns : goal.returns-in_err-make_turn-clause-turns
 returns-in_err-make_turn-clause-turns g c =
-    let state = g.C.HasState.state in
+    let maker = maker_of g.C.MakesSteps.runs g.C.MakesSteps.makes in
     let s = c.args.session.now in
     let u = c.make_turn.new.session in
     let old = c.args.core.now in
     let new = c.make_turn.new.core in
     let e = c.in_err-make_turn.field-0.0 in
-    by_error (λ (r : Result (Unit {0}) Refusal). MakesRoom _ state c.args.actor r s u old new) c.from_residual.result e c.from_residual.ensures.1
-    (room_then_stop _ state c.args.actor (Unit {0})
+    by_error (λ (r : Result (Unit {0}) Refusal). MakesRoomBy maker c.args.actor r s u old new) c.from_residual.result e c.from_residual.ensures.1
+    (room_then_stop _ maker c.args.actor (Unit {0})
     (Unit {0}) tt e s c.loop-actor.session u old c.loop-actor.core new c.loop-actor.invariant.turns
     (crowded c.queued.result (seen c.loop-actor.session) c.queued.ensures c.loop-actor-test.true) c.in_err-make_turn.ensures.turn)
 
 pub returns-then-is_none-clause-turns : goal.returns-then-is_none-clause-turns
 returns-then-is_none-clause-turns g c =
-    room_then_any _ g.C.HasState.state c.args.actor (Unit {0})
+    room_then_any _ (maker_of g.C.MakesSteps.runs g.C.MakesSteps.makes) c.args.actor (Unit {0})
     (Unit {0}) tt tt c.args.session.now c.loop-actor.session c.make_turn.new.session c.args.core.now c.loop-actor.core c.make_turn.new.core c.loop-actor.invariant.turns
     (crowded c.queued.result (seen c.loop-actor.session) c.queued.ensures c.loop-actor-test.true)
     c.in_ok-make_turn.field-0 c.in_ok-make_turn.ensures.turn
@@ -37,7 +37,7 @@ loop-actor-preserved g c =
       running = c.in_ok-make_turn.ensures.running;
       ended = c.in_ok-make_turn.ensures.ended ∙ c.loop-actor.invariant.ended;
       count = c.in_ok-make_turn.ensures.count ∙ c.loop-actor.invariant.count;
-      turns = room_then_any _ g.C.HasState.state c.args.actor (Unit {0})
+      turns = room_then_any _ (maker_of g.C.MakesSteps.runs g.C.MakesSteps.makes) c.args.actor (Unit {0})
           (Unit {0}) tt tt c.args.session.now c.loop-actor.session c.make_turn.new.session c.args.core.now c.loop-actor.core c.make_turn.new.core c.loop-actor.invariant.turns
           (crowded c.queued.result (seen c.loop-actor.session) c.queued.ensures c.loop-actor-test.true)
           c.in_ok-make_turn.field-0 c.in_ok-make_turn.ensures.turn;

@@ -4,10 +4,9 @@ use Rattle.refusals.specs.declared.refusal.Refusal.{Refusal}
 use Rattle.refusals.specs.declared.refusal.Refusal.TheVariants.{Memory}
 use Rattle.ingest_session.specs.Due.{due_in}
 use Rattle.ingest_session.specs.State.{SessionState}
-use Rattle.session_turns.specs.Turns.{TakesTurn, Asks}
+use Rattle.session_turns.specs.Turning.{AskedFor, TakesTurnBy, does, maker_of}
 use Rattle.session_turns.proofs.Results.{by_error}
 use Rattle.ingest_session.proofs.Staying.{told}
-use Rattle.session_turns.proofs.TurnRuns.{answer_fits}
 use Rattle.session_turns.proofs.turns.make_turn.Goals as goal
 
 pub returns-in_err-due-clause-turn : goal.returns-in_err-due-clause-turn
@@ -15,7 +14,7 @@ returns-in_err-due-clause-turn g c =
     let core = c.args.core.now in
     by_error
     (λ (r : Result
-    (Option Answer) Refusal). TakesTurn _ g.C.HasState.state c.args.actor r c.args.session.now c.due.new.self core core) c.from_residual.result Memory c.from_residual.ensures.1
+    (Option Answer) Refusal). TakesTurnBy (maker_of g.C.MakesSteps.runs g.C.MakesSteps.makes) c.args.actor r c.args.session.now c.due.new.self core core) c.from_residual.result Memory c.from_residual.ensures.1
     (inl (refl, record { places = c.due.ensures.places; keeps = c.due.ensures.keeps }, refl))
 
 pub returns-in-Nothing-clause-turn : goal.returns-in-Nothing-clause-turn
@@ -24,38 +23,29 @@ returns-in-Nothing-clause-turn g c =
 
 pub returns-in_err-answer-clause-turn : goal.returns-in_err-answer-clause-turn
 returns-in_err-answer-clause-turn g c =
-    let state = g.C.HasState.state in
+    let maker = maker_of g.C.MakesSteps.runs g.C.MakesSteps.makes in
     let e = c.in_err-answer.field-0.0 in
     let t = c.due.new.self in
     let new = c.ask.new.core in
-    by_error (λ (r : Result (Option Answer) Refusal). TakesTurn _ state c.args.actor r c.args.session.now t c.args.core.now new) c.from_residual-in_err-answer.result e
+    by_error (λ (r : Result (Option Answer) Refusal). TakesTurnBy maker c.args.actor r c.args.session.now t c.args.core.now new) c.from_residual-in_err-answer.result e
     c.from_residual-in_err-answer.ensures.1
     (inr (
       record { places = c.due.ensures.places; keeps = c.due.ensures.keeps },
       c.in_ok-due.ensures.ok,
-      subst (λ (d : _). Asks c.args.actor d t (Err e) (state c.args.core.now) (state new)) c.in_ok-due.ensures.due c.in_err-answer.ensures.asks,
+      subst (λ (d : _). AskedFor (does maker c.args.actor c.args.core.now new) d t (Err e)) c.in_ok-due.ensures.due c.in_err-answer.ensures.asks,
     ))
-
-pub told-requires-clause-answer : goal.told-requires-clause-answer
-told-requires-clause-answer g c =
-    let state = g.C.HasState.state in
-    let t = c.due.new.self in
-    answer_fits c.args.actor (due_in t) t c.in_ok-answer.answer (state c.args.core.now) (state c.ask.new.core) refl
-    (subst (λ (d : _). Asks c.args.actor d t (Ok c.in_ok-answer.answer) (state c.args.core.now) (state c.ask.new.core)) c.in_ok-due.ensures.due c.in_ok-answer.ensures.asks)
 
 pub returns-clause-turn : goal.returns-clause-turn
 returns-clause-turn g c =
-    let state = g.C.HasState.state in
+    let maker = maker_of g.C.MakesSteps.runs g.C.MakesSteps.makes in
     let t = c.due.new.self in
-    let asks = subst
-    (λ (d : _). Asks c.args.actor d t (Ok c.in_ok-answer.answer) (state c.args.core.now) (state c.ask.new.core)) c.in_ok-due.ensures.due c.in_ok-answer.ensures.asks in
     record {
       before = t;
       paused = record { places = c.due.ensures.places; keeps = c.due.ensures.keeps };
       settled = c.in_ok-due.ensures.ok;
-      asks = asks;
+      asks = subst (λ (d : _). AskedFor (does maker c.args.actor c.args.core.now c.ask.new.core) d t (Ok c.in_ok-answer.answer)) c.in_ok-due.ensures.due c.in_ok-answer.ensures.asks;
       running = c.in_ok-answer.ensures.running;
-      fits = answer_fits c.args.actor (due_in t) t c.in_ok-answer.answer (state c.args.core.now) (state c.ask.new.core) refl asks;
+      fits = c.in_ok-answer.ensures.fits;
       told = c.told.ensures.told;
       history = c.told.ensures.history;
     }

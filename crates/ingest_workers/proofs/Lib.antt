@@ -1,0 +1,5 @@
+pub mod Ended
+pub mod Feeding
+pub mod Owned
+pub mod Pieces
+pub mod Seats

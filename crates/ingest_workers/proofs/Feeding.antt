@@ -1,5 +1,5 @@
 -- What a caller asks for as its session is fed.
-use Rattle.std.proofs.Common.{◌≡◌, ◌⊎◌, inl, inr, ◌<◌, ◌≤◌, ◌+◌, ℕ, Bool, true, false, List, [], ◌∷◌, ◌++◌, length, Option, Some, None, Result, Ok, Err, refl, sym, ap, ◌∙◌, subst, arith}
+use Rattle.std.proofs.Common.{◌≡◌, ◌⊎◌, inl, inr, ◌<◌, ◌≤◌, ◌+◌, ℕ, Bool, true, false, List, [], ◌∷◌, ◌++◌, length, Some, None, Result, Ok, Err, refl, sym, ap, ◌∙◌, subst, arith}
 use Rattle.std.specs.Prelude.{if◌then◌else◌, nat_lt}
 use Rattle.std.proofs.lemmas.Bool.{ltb-true}
 use Rattle.disk_format.specs.declared.numbers.TheConstants.{MOST_FILE}
@@ -18,10 +18,10 @@ use Rattle.ingest_session.specs.Due.{due_in, offered_in}
 use Rattle.ingest_session.specs.History.{History, HasHistory, IsBegun, answered, no_history}
 use Rattle.ingest_session.specs.State.{SessionState}
 use Rattle.session_turns.specs.Owning.{IsAskedFor}
-use Rattle.session_turns.specs.Turning.{AskedFor, FeedsBy, IsPaused, Maker, RunBy, StoppedBy, TakesTurnsBy, Turn, TurnRefused, does, maker_of, session_at}
+use Rattle.session_turns.specs.Turning.{AskedFor, FeedsBy, IsPaused, Maker, RunBy, StoppedBy, Turn, TurnRefused, does, maker_of, session_at}
 use Rattle.load_stream.specs.Load.{LoadState}
 use Rattle.session_turns.proofs.TurnRuns.{turn_stays}
-use Rattle.ingest_workers.specs.Giving.{BeginsFile, Begun, BySession, ByTurn, Given, Gives, SessionOf, Stops, Turned}
+use Rattle.ingest_workers.specs.Giving.{BeginsFile, Begun, BySession, ByTurn, Given, Stops, Turned}
 use Rattle.ingest_workers.specs.Jobs.{AskedFrom}
 use Rattle.ingest_workers.specs.Working.{IsUnderWay}
 

@@ -101,20 +101,26 @@ pub record TakesAll (result : Result (Unit {0}) Refusal) (all : List Ask) : Type
   pub is_last : IsLast result last
   pub all_is : all ≡ taken ++ last ∷ []
 
--- it was opened and read to its end
+-- it was opened, read to its end, and let go
 pub record Reads (name : List ℕ) (all : List Ask) : Type 0 where
   pub opening : Ask
   pub taken : List Ask
-  pub step_is : opening.step ≡ asked.OpenRead name
+  pub closing : Ask
+  pub opening_is : opening.step ≡ asked.OpenRead name
   pub opened : IsDone opening
   pub takes : TakesAll (Ok tt) taken
-  pub all_is : all ≡ opening ∷ taken
+  pub closing_is : closing.step ≡ asked.EndRead
+  pub closed : IsDone closing
+  pub all_is : all ≡ opening ∷ (taken ++ closing ∷ [])
 
--- it was refused to be opened, or was given up
+-- it was refused to be opened; or was given up; or was refused to be let go
 pub data Unread (name : List ℕ) (refusal : Refusal) : List Ask → Type 0 where
   Unopened : (a : Ask) → a.step ≡ asked.OpenRead name → IsRefused refusal a → Unread name refusal (a ∷ [])
-  Unended : (opening : Ask) (taken : List Ask) (end : Ask) → opening.step ≡ asked.OpenRead name → IsDone opening
-      → TakesAll (Err refusal) taken → end.step ≡ asked.EndRead → Unread name refusal (opening ∷ (taken ++ end ∷ []))
+  Unended : (opening : Ask) (taken : List Ask) (closing : Ask) → opening.step ≡ asked.OpenRead name → IsDone opening
+      → TakesAll (Err refusal) taken → closing.step ≡ asked.EndRead → Unread name refusal (opening ∷ (taken ++ closing ∷ []))
+  Unclosed : (opening : Ask) (taken : List Ask) (closing : Ask) → opening.step ≡ asked.OpenRead name → IsDone opening
+      → TakesAll (Ok tt) taken → closing.step ≡ asked.EndRead → IsRefused refusal closing
+      → Unread name refusal (opening ∷ (taken ++ closing ∷ []))
 
 abbrev pub IsRead : List ℕ → Result (Unit {0}) Refusal → List Ask → Type 0
 IsRead name (Ok u) all = Reads name all

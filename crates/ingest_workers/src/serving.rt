@@ -29,7 +29,7 @@ fn take_all<S: StoreCalls, R: Wait>(
     unreachable!()
 }
 
-// Reads the file of a name to its end. Where that is refused, the file is given up.
+// Reads the file of a name to its end, and lets it go. Where that is refused, the file is given up.
 fn read<S: StoreCalls, R: Wait>(
     rt: &R,
     caller: &mut ByCaller<S>,
@@ -40,7 +40,10 @@ fn read<S: StoreCalls, R: Wait>(
 {
     caller.make(own(), Step::OpenRead { name }, buf)?;
     match take_all(rt, caller, buf) {
-        Ok(()) => Ok(()),
+        Ok(()) => {
+            caller.make(own(), Step::EndRead, buf)?;
+            Ok(())
+        }
         Err(refusal) => {
             let _given_up = caller.make(own(), Step::EndRead, buf);
             Err(refusal)

@@ -17,7 +17,8 @@
 //!     split P Q (Q is new)                join P Q (P takes Q in)               seen P
 //!     close P                             open P (on the disk that was closed)
 //!
-//! Behind the rows stands what two threads with a pass each come to, whatever comes first.
+//! Behind the rows stands what two threads with a pass each come to, whatever comes first, and two workers whose first jobs wait for one
+//! another.
 #![tactic(auto)]
 
 mod answers;
@@ -26,8 +27,10 @@ mod shared;
 mod stage;
 mod steps;
 mod threads;
+mod workers;
 
 use crate::threads::two_threads;
+use crate::workers::two_workers;
 use stage::Stores;
 use std::io;
 use std::process::ExitCode;
@@ -40,6 +43,10 @@ fn main(rt: HostRuntime) -> io::Result<ExitCode> {
     match two_threads(&rt, rt.alloc()) {
         Ok(text) => println!(rt; "{text}")?,
         Err(_) => println!(rt; "two threads: no end")?,
+    }
+    match two_workers(&rt, rt.alloc()) {
+        Ok(text) => print!(rt; "{text}")?,
+        Err(_) => println!(rt; "two workers: no end")?,
     }
     Ok(ExitCode::from(if failed == 0 { 0 } else { 1 }))
 }

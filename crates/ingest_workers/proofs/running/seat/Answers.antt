@@ -1,4 +1,4 @@
-use Rattle.std.proofs.Common.{rules, ◌≡◌, ◌≤◌, ◌+◌, ℕ, All, List, [], ◌∷◌, ◌++◌, map, reverse, refl, sym, subst, arith}
+use Rattle.std.proofs.Common.{rules, ◌≡◌, All, List, [], ◌∷◌, ◌++◌, map, reverse, sym, subst}
 use Rattle.std.proofs.lemmas.List.Elements.{All-append}
 use Rattle.ingest_workers.specs.declared.workers.Worker.{Worker}
 use Rattle.ingest_workers.specs.Working.{IsReady}

@@ -1,8 +1,7 @@
-use Rattle.std.proofs.Common.{rules, ◌≡◌, ◌≤◌, ◌+◌, ℕ, Result, ◌++◌, Ok, Err, length, take, refl, sym, ap, subst, ◌∙◌, arith}
+use Rattle.std.proofs.Common.{rules, ◌≡◌, ◌≤◌, ◌+◌, ℕ, Result, length, take, refl, sym, ap, subst, ◌∙◌, arith}
 use Rattle.load_stream.specs.Load.{LoadState, byte_of}
 use Rattle.refusals.specs.declared.refusal.Refusal.{Refusal}
 use Rattle.session_turns.proofs.Results.{by_error}
-use Rattle.ingest_workers.specs.Giving.{BeginsFile}
 use Rattle.ingest_workers.specs.Working.{Fills}
 use Rattle.ingest_workers.proofs.Feeding.{fed_under, unfed_stops}
 use Rattle.ingest_workers.proofs.Pieces.{begins_more, longer}

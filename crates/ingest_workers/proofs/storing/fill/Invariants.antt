@@ -1,4 +1,4 @@
-use Rattle.std.proofs.Common.{◌≡◌, ◌-◌, ℕ, false, length}
+use Rattle.std.proofs.Common.{◌≡◌, ◌-◌, false, length}
 use Rattle.ingest_workers.specs.Working.{IsUnderWay}
 use Rattle.ingest_workers.proofs.storing.fill.Given as goal
 

@@ -1,4 +1,4 @@
-use Rattle.std.proofs.Common.{◌≡◌, Result, [], ◌∷◌, ◌++◌, Ok, Err, refl, sym, subst, inl}
+use Rattle.std.proofs.Common.{Result, [], ◌∷◌, ◌++◌, Ok, Err, refl, sym, subst}
 use Rattle.disk_format.specs.Cells.{Root}
 use Rattle.load_stream.specs.Load.{LoadState}
 use Rattle.refusals.specs.declared.refusal.Refusal.{Refusal}

@@ -4,11 +4,9 @@ use Rattle.refusals.specs.declared.refusal.Refusal.{Refusal}
 use Rattle.refusals.specs.declared.refusal.Refusal.TheVariants.{Memory}
 use Rattle.actor_parts.specs.Asking.{Ask}
 use Rattle.actor_parts.specs.StepValue as asked
-use Rattle.ingest_session.specs.History.{no_history}
 use Rattle.session_turns.proofs.Results.{by_error}
-use Rattle.ingest_workers.specs.Giving.{Begun, GivenUp, IsStored, Unbegun, Untaken}
+use Rattle.ingest_workers.specs.Giving.{GivenUp, IsStored, Unbegun, Untaken}
 use Rattle.ingest_workers.specs.Jobs.{file_of}
-use Rattle.ingest_workers.specs.Working.{IsUnderWay}
 use Rattle.ingest_workers.proofs.Feeding.{asks_snoc, fresh_under}
 use Rattle.ingest_workers.proofs.storing.store.Goals as goal
 

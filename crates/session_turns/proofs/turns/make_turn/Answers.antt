@@ -2,7 +2,6 @@ use Rattle.std.proofs.Common.{◌∙◌, inl, inr, Option, Result, Ok, Err, refl
 use Rattle.actor_parts.specs.declared.step.Answer.{Answer}
 use Rattle.refusals.specs.declared.refusal.Refusal.{Refusal}
 use Rattle.refusals.specs.declared.refusal.Refusal.TheVariants.{Memory}
-use Rattle.ingest_session.specs.Due.{due_in}
 use Rattle.ingest_session.specs.State.{SessionState}
 use Rattle.session_turns.specs.Turning.{AskedFor, TakesTurnBy, does, maker_of}
 use Rattle.session_turns.proofs.Results.{by_error}

@@ -1,4 +1,6 @@
 //! Two workers over one store, whose first jobs wait for one another.
+ghost use Rattle.std.specs.Prelude.{◌≡◌};
+
 use crate::shared::Kernel;
 use crate::stage::formatted;
 use actor_parts::{Answer, SegBuf, Step, StoreCalls};

@@ -1,5 +1,6 @@
 pub mod Ended
 pub mod Feeding
+pub mod Ingesting
 pub mod Owned
 pub mod Pieces
 pub mod Seats

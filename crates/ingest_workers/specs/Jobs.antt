@@ -65,8 +65,8 @@ IsJob job (ends.Refused refusal) all = IsServed job (Err refusal) all
 abbrev pub AskedFrom : {S : Type 0} → Asks S → S → (List Ask → Type 0) → S → Type 0
 AskedFrom asks old P new = (all : List Ask) × AsksAll asks old all new × P all
 
--- Of these jobs one worker of so many did those whose number leaves its own when divided by how many workers there are, one after the other,
--- each once.
+-- Of these jobs one worker of so many did those whose number leaves its own when divided by how many workers there are, one after the
+-- other, each once.
 abbrev pub OwnJobs : (count worker : ℕ) → List Job → List JobEnd → List Ask → Type 0
 OwnJobs count worker [] [] all = all ≡ []
 OwnJobs count worker (job ∷ jobs) (end ∷ ended) all = MatchBool (job.number % count == worker)

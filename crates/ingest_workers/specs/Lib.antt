@@ -1,3 +1,4 @@
 pub mod Giving
+pub mod Ingesting
 pub mod Jobs
 pub mod Working

@@ -4,10 +4,10 @@ use std::sync::Wait;
 
 /// What stands before and behind each job of a worker, as a test that has workers wait for one another.
 pub trait Gate {
-    /// Is called before a job's first step.
+    /// Is called before the first step of the job of this number.
     fn before<R: Wait>(&self, rt: &R, job: u64);
 
-    /// Is called after a job's last step.
+    /// Is called after its last step.
     fn after<R: Wait>(&self, rt: &R, job: u64);
 }
 

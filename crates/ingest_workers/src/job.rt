@@ -10,13 +10,16 @@ use std::alloc::{AllocError, Global};
 /// job's number: `load_stream::LoadStream` says which bytes it has.
 #[derive(Clone, Copy)]
 pub struct Job {
+    /// Names the file, `temp.N` and `work.N`, and says which worker does the job. Jobs of one number have the same names.
     pub number: u64,
+    /// The seed of the file's bytes.
     pub seed: u64,
+    /// How many bytes the file has. Above 1,099,511,627,776 the job ends, as a file may not be so long.
     pub length: u64,
 }
 
-/// How a job ended: the file is stored, and has this root; or something was refused, or there was no memory, and a file that was under way
-/// was given up. What was stored before that stays.
+/// How a job ended: the file is stored as `work.N`, and has this root; or something was refused, or there was no memory, and of a file that
+/// was under way it was asked that it be given up. What was stored before that stays.
 #[derive(Clone, Copy)]
 pub enum JobEnd {
     Stored(Root),

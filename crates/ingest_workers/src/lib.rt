@@ -1,8 +1,9 @@
-//! Workers that store generated files beside one another, each by a caller of its own (docs/MODEL.md, 'Workers').
+//! Workers that store generated files, each by a caller of its own (docs/MODEL.md, 'Workers').
 #![tactic(auto)]
 
 mod gate;
 mod job;
+mod laws;
 mod running;
 mod serving;
 mod storing;
@@ -10,4 +11,5 @@ mod workers;
 
 pub use crate::gate::{Gate, OpenGate};
 pub use crate::job::{Job, JobEnd};
+pub use crate::laws::what_is_given_is_ingested;
 pub use crate::running::run_jobs;

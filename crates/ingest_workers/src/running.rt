@@ -1,5 +1,5 @@
 //! Jobs that are shared out.
-ghost use Rattle.std.specs.Prelude.{◌≡◌, ◌<◌, ◌≤◌, [], All, IfErr, IfOk, length, map, reverse, vec_capacity, vec_len};
+ghost use Rattle.std.specs.Prelude.{◌≡◌, ◌<◌, ◌≤◌, [], All, IfErr, IfOk, length, map, reverse, vec_capacity};
 ghost use Rattle.ingest_workers.specs.Jobs.{AllEnded};
 ghost use Rattle.ingest_workers.specs.Working.{AreGathered, HasDone, IsReady};
 
@@ -109,8 +109,9 @@ fn rooms_for<S: StoreCalls + Drop>(
 }
 
 /// Does all jobs, each once: each caller does those whose number leaves its own place when divided by how many callers there are, in order,
-/// in a thread of its own where one can be had. Says how each job ended; one that is refused is given up, and its caller goes on. It fails
-/// for want of memory alone, before any job begins, and hands the callers back then.
+/// in a thread of its own where one can be had. There is one caller at least. Callers come back in their order, and how each job ended
+/// stands at the place of the job; one that is refused ends there, and its caller goes on. It fails for want of memory alone, before any job
+/// begins, and hands the callers back then. A file is read until its end is answered, so it promises what it promises if it returns.
 pub fn run_jobs<S: StoreCalls + Send + Drop, G: Gate + Sync, R: Threads + Wait + Sync>(
     rt: &R,
     alloc: Global,

@@ -22,22 +22,6 @@ use Rattle.session_turns.specs.Turns.{TurnRun, core_maker}
 use Rattle.ingest_session.proofs.Settled.{keeps_on}
 use Rattle.ingest_session.proofs.Staying.{Stays, after, told}
 
--- ---- an answer is one that the step can have
-
-module _ (s : SessionState) where
-  pub claim_fits : (seg : KindSegment) (result : Result Answer Refusal) → due_in s ≡ Claim → IfOk result (IsAnswerTo (asked.Claim seg))
-      → IfOk result (λ answer. IsAnswerFor answer s)
-  claim_fits seg (Err refusal) due fits = tt
-  claim_fits seg (Ok answers.Held) due fits = due
-  claim_fits seg (Ok answers.Absent) due fits = due
-  claim_fits seg (Ok answer) due fits = absurd fits
-
-  pub seal_fits : (kind : Kind) (result : Result Answer Refusal) → due_in s ≡ Seal kind → IfOk result (IsAnswerTo (asked.Seal (offered_in s kind)))
-      → IfOk result (λ answer. IsAnswerFor answer s)
-  seal_fits kind (Err refusal) due fits = tt
-  seal_fits kind (Ok (answers.Sealed id count)) due fits = (kind, due, fits.0, fits.1)
-  seal_fits kind (Ok answer) due fits = absurd fits
-
 -- ---- pauses
 
 pub paused_still : (s : SessionState) → IsPaused s s

@@ -108,12 +108,14 @@ module _ {M : Type 0} (maker : Maker M) (actor : ℕ) where
       ((refusal ≡ Memory) × IsPaused s t × (new ≡ old)) ⊎ TurnRefused (does old new) refusal s t
 
   -- each of these turns was made while more waited than a push leaves
-  abbrev pub AllForRoom : (answers : List Answer) (old new : SessionMoment M) → RunBy answers old.session new.session old.core new.core → Type 0
+  abbrev pub AllForRoom : (answers : List Answer) (old new : SessionMoment M)
+      → RunBy answers old.session new.session old.core new.core → Type 0
   AllForRoom [] old new run = Unit {0}
   AllForRoom (answer ∷ answers) old new run = IsCrowded old.session × AllForRoom answers (session_at run.0 run.1) new run.3
 
   -- and the one that was refused after them, or for which there was no memory
-  abbrev pub StoppedForRoom : (refusal : Refusal) (old new : SessionMoment M) → StoppedBy refusal old.session new.session old.core new.core → Type 0
+  abbrev pub StoppedForRoom : (refusal : Refusal) (old new : SessionMoment M)
+      → StoppedBy refusal old.session new.session old.core new.core → Type 0
   StoppedForRoom refusal old new stopped = AllForRoom stopped.0 old (session_at stopped.1 stopped.2) stopped.3 × IsCrowded stopped.1
 
   -- any number of turns, each made for room

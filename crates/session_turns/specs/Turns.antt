@@ -6,7 +6,7 @@ use Rattle.ingest_session.specs.declared.due.Due.{Due}
 use Rattle.ingest_session.specs.State.{SessionState}
 use Rattle.store_core.specs.Core.{CoreStep}
 use Rattle.store_core.specs.State.{CoreState, IsRunning}
-use Rattle.session_turns.specs.Turning.{AllForRoom, AskedFor, Doing, FeedsBy, Maker, MakesRoomBy, RunBy, StoppedBy, StoppedForRoom, TakesTurnBy, TakesTurnsBy, Turn, TurnRefused}
+use Rattle.session_turns.specs.Turning.{AllForRoom, AskedFor, Doing, FeedsBy, Maker, RunBy, StoppedBy, StoppedForRoom, TakesTurnBy, TakesTurnsBy, Turn, TurnRefused}
 pub use Rattle.session_turns.specs.Turning.{IsCrowded, IsPaused, SessionMoment, session_at}
 
 -- a step of a core, by an actor
@@ -39,10 +39,12 @@ module _ (C : Type 0) (state : C → CoreState) (actor : ℕ) where
   abbrev pub TakesTurn : Result (Option Answer) Refusal → SessionState → SessionState → C → C → Type 0
   TakesTurn = TakesTurnBy (core_maker C state) actor
 
-  abbrev pub AreForRoom : (answers : List Answer) (old new : SessionMoment C) → TurnRun answers old.session new.session old.core new.core → Type 0
+  abbrev pub AreForRoom : (answers : List Answer) (old new : SessionMoment C)
+      → TurnRun answers old.session new.session old.core new.core → Type 0
   AreForRoom = AllForRoom (core_maker C state) actor
 
-  abbrev pub StopForRoom : (refusal : Refusal) (old new : SessionMoment C) → TurnsStopped refusal old.session new.session old.core new.core → Type 0
+  abbrev pub StopForRoom : (refusal : Refusal) (old new : SessionMoment C)
+      → TurnsStopped refusal old.session new.session old.core new.core → Type 0
   StopForRoom = StoppedForRoom (core_maker C state) actor
 
   abbrev pub Feeds : Result (Unit {0}) Refusal → List ℕ → SessionMoment C → SessionMoment C → Type 0
@@ -50,6 +52,3 @@ module _ (C : Type 0) (state : C → CoreState) (actor : ℕ) where
 
 abbrev pub TakesTurns : {T : Type 0} (C : Type 0) → (C → CoreState) → ℕ → Result T Refusal → SessionState → SessionState → C → C → Type 0
 TakesTurns C state actor result s t old new = TakesTurnsBy (core_maker C state) actor result s t old new
-
-abbrev pub MakesRoom : {T : Type 0} (C : Type 0) → (C → CoreState) → ℕ → Result T Refusal → SessionState → SessionState → C → C → Type 0
-MakesRoom C state actor result s t old new = MakesRoomBy (core_maker C state) actor result s t old new

@@ -120,7 +120,8 @@ pub fn feed<C: MakesSteps>(
 ) -> Result<(), Refusal>
     requires running { C.runs core.old }
     requires few { length bytes.now ≤ MOST_PIECE }
-    ensures feeds { FeedsBy (maker_of C.runs C.makes) actor result bytes.now (session_at session.old core.old) (session_at session.new core.new) }
+    ensures feeds { FeedsBy (maker_of C.runs C.makes) actor result bytes.now (session_at session.old core.old)
+        (session_at session.new core.new) }
     ensures ended { session.new.ended ≡ session.old.ended }
     ensures count { OnOk result (session.new.count ≡ session.old.count + length bytes.now) }
     ensures few { OnOk result (session.new.count ≤ MOST_FILE) }

@@ -92,13 +92,13 @@ fn work<R: Threads + Wait + Sync>(
     )?)
 }
 
-// The jobs, of seed 0.
+// The jobs, each with a seed of its own: so short files of one seed are all the same.
 fn jobs(alloc: Global) -> Result<Vec<Job>, Fault> {
     let mut jobs = Vec::new(alloc);
     for number in 0..JOBS {
         jobs.push(Job {
             number,
-            seed: 0,
+            seed: number,
             length: 8,
         })?;
     }

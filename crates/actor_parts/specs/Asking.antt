@@ -39,4 +39,5 @@ IsAnswerTo (asked.GcStart percent) (answers.Started snapshot) = Unit {0}
 IsAnswerTo asked.GcStep (answers.Did phase) = Unit {0}
 IsAnswerTo asked.GcStep (answers.Done freed copied) = Unit {0}
 IsAnswerTo asked.Stat answer = Unit {0}
+IsAnswerTo asked.Unique (answers.Unique segments bytes) = Unit {0}
 IsAnswerTo step answer = ⊥

@@ -21,6 +21,7 @@ pub data StepValue : Type 0 where
   GcStart : (percent : ℕ) → StepValue
   GcStep : StepValue
   Stat : StepValue
+  Unique : StepValue
 
 abbrev pub step_value : steps.Step → StepValue
 step_value asked.Begin = Begin
@@ -36,6 +37,7 @@ step_value asked.List = ListNames
 step_value (asked.GcStart percent) = GcStart percent.now
 step_value asked.GcStep = GcStep
 step_value asked.Stat = Stat
+step_value asked.Unique = Unique
 
 -- What may be asked: a segment of a tree is a node of its level, and containers may be offered together.
 abbrev pub IsStep : StepValue → Type 0

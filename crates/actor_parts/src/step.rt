@@ -37,6 +37,8 @@ pub enum Step<'a> {
     GcStep,
     /// To count what the store has.
     Stat,
+    /// To count the keys that the trees of all names have, each once. Which actor asks doesn't matter.
+    Unique,
 }
 
 /// What a step answers, where it isn't refused.
@@ -99,5 +101,10 @@ pub enum Answer {
         bytes: u64,
         used: u64,
         free: u64,
+    },
+    /// How many keys the trees of all names have, and how many bytes these have together, each counted once.
+    Unique {
+        segments: u64,
+        bytes: u64,
     },
 }

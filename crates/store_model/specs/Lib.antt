@@ -13,3 +13,4 @@ pub mod Pieces
 pub mod Steps
 pub mod Together
 pub mod Trees
+pub mod Unique

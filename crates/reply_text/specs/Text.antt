@@ -49,6 +49,10 @@ listed_line count = codes "listed " ++ decimal count ++ codes "\n"
 unfoldable pub listing_text : List NamedRoot → List ℕ
 listing_text files = flat_map file_line files ++ listed_line (length files)
 
+-- `unique segments SEGMENTS bytes BYTES`
+unfoldable pub unique_line : ℕ → ℕ → List ℕ
+unique_line segments bytes = codes "unique segments " ++ decimal segments ++ codes " bytes " ++ decimal bytes ++ codes "\n"
+
 -- how two segments of one key differ
 unfoldable pub difference_text : Difference → List ℕ
 difference_text (Length offered held) = codes "length " ++ decimal offered ++ codes " " ++ decimal held

@@ -2,7 +2,7 @@
 ghost use Rattle.std.specs.Prelude.{◌≡◌, ◌++◌, codes, decimal, map, IfOk, OnOk};
 ghost use Rattle.std.specs.List.{flat_map};
 ghost use Rattle.namespace.specs.Listing.{listed_value};
-ghost use Rattle.reply_text.specs.Text.{formatted_line, stored_line, deleted_line, named_line, file_line, listed_line, listing_text};
+ghost use Rattle.reply_text.specs.Text.{formatted_line, stored_line, deleted_line, named_line, file_line, listed_line, listing_text, unique_line};
 
 use crate::digits::put_digits;
 use itoa::Buffer;
@@ -51,6 +51,19 @@ pub fn listing_text(alloc: Global, files: &Listing) -> Result<Vec<u8>, AllocErro
     add_file_lines(&mut text, names)?;
     add_number_line(&mut text, b"listed ", names.len() as u64)?;
     Ok(text)
+}
+
+/// What the trees of all names have, each key counted once: the reply to a line `unique` of a script. It fails for want of
+/// memory alone.
+#[tactic(auto, unfolding(crate::specs::Text::unique_line))]
+pub fn unique_line(alloc: Global, segments: u64, bytes: u64) -> Result<Vec<u8>, AllocError>
+    ensures { IfOk result (λ line. line.items ≡ unique_line segments bytes) }
+{
+    let mut line = Vec::from_slice(alloc, b"unique segments ")?;
+    let mut number = Buffer::new();
+    line.extend_from_slice(number.format(segments).as_bytes())?;
+    add_number_line(&mut line, b" bytes ", bytes)?;
+    Ok(line)
 }
 
 fn add_file_lines(text: &mut Vec<u8>, names: &[ListedName]) -> Result<(), AllocError>

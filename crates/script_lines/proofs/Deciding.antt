@@ -7,7 +7,7 @@ use Rattle.std.proofs.lemmas.List.Folds.{list_any-append}
 use Rattle.std.proofs.lemmas.Slice.Eq.{bytes_eq-Decides}
 use Rattle.std.specs.Str.{bytes_eq}
 use Rattle.script_lines.specs.declared.script.TheConstants.{MOST_LINE}
-use Rattle.script_lines.specs.Grammar.{LineValue, Begin, Push, Finish, Turn, Commit, Abort, Read, Next, Drop, Delete, ListNames, Gc, GcStep, Sweep, Stat, Reopen, IsLine, IsActor, IsPercent, IsHex, IsWord, is_word_byte}
+use Rattle.script_lines.specs.Grammar.{LineValue, Begin, Push, Finish, Turn, Commit, Abort, Read, Next, Drop, Delete, ListNames, Gc, GcStep, Sweep, Stat, Unique, Reopen, IsLine, IsActor, IsPercent, IsHex, IsWord, is_word_byte}
 use Rattle.script_lines.specs.Script.{is_line_end, HasNoLineEnd, IsRightLine}
 use Rattle.script_lines.proofs.Numbers.{number_has_no_line_end, percent_has_no_line_end}
 use Rattle.script_lines.proofs.Reading.{line_of, same_line, no_line, no_other_line}
@@ -57,6 +57,7 @@ line_has_none (Gc percent) line is = subst HasNoLineEnd (sym is.1) (none_append 
 line_has_none GcStep line is = subst HasNoLineEnd (sym is) refl
 line_has_none Sweep line is = subst HasNoLineEnd (sym is) refl
 line_has_none Stat line is = subst HasNoLineEnd (sym is) refl
+line_has_none Unique line is = subst HasNoLineEnd (sym is) refl
 line_has_none Reopen line is = subst HasNoLineEnd (sym is) refl
 
 pub right_has_none : (value : LineValue) (line : List ℕ) → IsRightLine value line → HasNoLineEnd line
@@ -88,6 +89,7 @@ one_line (Gc percent) line other is too = is.1 ∙ sym too.1
 one_line GcStep line other is too = is ∙ sym too
 one_line Sweep line other is too = is ∙ sym too
 one_line Stat line other is too = is ∙ sym too
+one_line Unique line other is too = is ∙ sym too
 one_line Reopen line other is too = is ∙ sym too
 
 pub one_list : (values : List LineValue) (lines others : List (List ℕ)) → AllZip IsRightLine values lines → AllZip IsRightLine values others → lines ≡ others
@@ -162,6 +164,7 @@ line_or_not (Gc p) line = both (percent p) (same_bytes line _)
 line_or_not GcStep line = same_bytes line _
 line_or_not Sweep line = same_bytes line _
 line_or_not Stat line = same_bytes line _
+line_or_not Unique line = same_bytes line _
 line_or_not Reopen line = same_bytes line _
 
 found_or_not : (line : List ℕ) (found : Option LineValue) → line_of line ≡ found → ((value : LineValue) × IsLine value line) ⊎ ((value : LineValue) → IsLine value line → ⊥)

@@ -5,17 +5,18 @@ use Rattle.std.specs.Str.{bytes_eq}
 use Rattle.std.proofs.lemmas.Bool.{false_from_ne_true}
 use Rattle.std.proofs.lemmas.List.{append_assoc}
 use Rattle.std.proofs.lemmas.Slice.Eq.{bytes_eq-Decides}
-use Rattle.script_lines.specs.Grammar.{LineValue, Begin, Push, Finish, Turn, Commit, Abort, Read, Next, Drop, Delete, ListNames, Gc, GcStep, Sweep, Stat, Reopen, IsLine, IsActor, HasNoSpace}
+use Rattle.script_lines.specs.Grammar.{LineValue, Begin, Push, Finish, Turn, Commit, Abort, Read, Next, Drop, Delete, ListNames, Gc, GcStep, Sweep, Stat, Unique, Reopen, IsLine, IsActor, HasNoSpace}
 use Rattle.script_lines.proofs.Bytes.{before_space, after_space, before-word, after-word, before-all, after-all, grouped}
 use Rattle.script_lines.proofs.Numbers.{number_has_no_space, actor_in, actor_is, percent_in, percent_is}
 
 abbrev pub of_one : List ℕ → Option LineValue
 of_one word =
     cond (bytes_eq word (codes "stat")) (Some Stat)
+    (cond (bytes_eq word (codes "unique")) (Some Unique)
     (cond (bytes_eq word (codes "reopen")) (Some Reopen)
     (cond (bytes_eq word (codes "list")) (Some ListNames)
     (cond (bytes_eq word (codes "step")) (Some GcStep)
-    (cond (bytes_eq word (codes "sweep")) (Some Sweep) None))))
+    (cond (bytes_eq word (codes "sweep")) (Some Sweep) None)))))
 
 abbrev pub of_two : List ℕ → ℕ → Option LineValue
 of_two word actor =
@@ -103,6 +104,7 @@ got_back (Gc percent) bytes line = ap line_of line.1 ∙ after_gc (decimal perce
 got_back GcStep bytes line = ap line_of line
 got_back Sweep bytes line = ap line_of line
 got_back Stat bytes line = ap line_of line
+got_back Unique bytes line = ap line_of line
 got_back Reopen bytes line = ap line_of line
 
 -- bytes are one line at most

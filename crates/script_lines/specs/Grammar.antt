@@ -23,6 +23,7 @@ pub data LineValue : Type 0 where
   GcStep : LineValue
   Sweep : LineValue
   Stat : LineValue
+  Unique : LineValue
   Reopen : LineValue
 
 -- a number that an actor has
@@ -65,6 +66,7 @@ IsLine (Gc percent) bytes = IsPercent percent × (bytes ≡ codes "gc " ++ decim
 IsLine GcStep bytes = bytes ≡ codes "step"
 IsLine Sweep bytes = bytes ≡ codes "sweep"
 IsLine Stat bytes = bytes ≡ codes "stat"
+IsLine Unique bytes = bytes ≡ codes "unique"
 IsLine Reopen bytes = bytes ≡ codes "reopen"
 
 -- no byte of them is a space

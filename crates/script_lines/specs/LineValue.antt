@@ -1,6 +1,6 @@
 -- What a line that was read says.
 use Rattle.script_lines.specs.declared.line.Line.{Line}
-use Rattle.script_lines.specs.declared.line.Line.TheVariants.{Begin, Push, Finish, Turn, Commit, Abort, Read, Next, Drop, Delete, List, Gc, Step, Sweep, Stat, Reopen}
+use Rattle.script_lines.specs.declared.line.Line.TheVariants.{Begin, Push, Finish, Turn, Commit, Abort, Read, Next, Drop, Delete, List, Gc, Step, Sweep, Stat, Unique, Reopen}
 use Rattle.script_lines.specs.Grammar as grammar
 
 abbrev pub line_value : Line → grammar.LineValue
@@ -19,4 +19,5 @@ line_value (Gc percent) = grammar.Gc percent
 line_value Step = grammar.GcStep
 line_value Sweep = grammar.Sweep
 line_value Stat = grammar.Stat
+line_value Unique = grammar.Unique
 line_value Reopen = grammar.Reopen

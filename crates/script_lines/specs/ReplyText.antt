@@ -1,11 +1,11 @@
 -- The replies to the lines of a script, each line with the LF that ends it (docs/FORMAT.md, 'Scripts').
 use Rattle.std.specs.Prelude.{ℕ, List, ◌++◌, codes, decimal}
 use Rattle.hex.specs.Hex.{encode_lower}
-use Rattle.reply_text.specs.Text.{refused_line, listing_text, phase_text}
+use Rattle.reply_text.specs.Text.{refused_line, listing_text, phase_text, unique_line}
 use Rattle.script_lines.specs.declared.reply.Turned.{Turned}
 use Rattle.script_lines.specs.declared.reply.Turned.TheVariants.{Held, Absent, Sealed, Idle}
 use Rattle.script_lines.specs.declared.reply.Holdings.{Holdings}
-use Rattle.script_lines.specs.ReplyValue.{ReplyValue, Begun, Pushed, Finished, Turn, Committed, Aborted, Reading, Bytes, End, Dropped, Deleted, Listed, Collecting, Step, Collected, Stat, Opened, Refused}
+use Rattle.script_lines.specs.ReplyValue.{ReplyValue, Begun, Pushed, Finished, Turn, Committed, Aborted, Reading, Bytes, End, Dropped, Deleted, Listed, Collecting, Step, Collected, Stat, Unique, Opened, Refused}
 
 -- what a turn did
 unfoldable pub turned_line : ℕ → Turned → List ℕ
@@ -38,5 +38,6 @@ reply_line (Collecting snapshot) = codes "collecting " ++ decimal snapshot ++ co
 reply_line (Step phase) = codes "step " ++ phase_text phase ++ codes "\n"
 reply_line (Collected freed copied) = codes "collected freed " ++ decimal freed ++ codes " copied " ++ decimal copied ++ codes "\n"
 reply_line (Stat holdings) = stat_line holdings
+reply_line (Unique segments bytes) = unique_line segments bytes
 reply_line (Opened files) = codes "opened " ++ decimal files ++ codes "\n"
 reply_line (Refused refusal) = refused_line refusal

@@ -25,6 +25,7 @@ pub data ReplyValue : Type 0 where
   Step : (phase : Phase) → ReplyValue
   Collected : (freed copied : ℕ) → ReplyValue
   Stat : (counted : Holdings) → ReplyValue
+  Unique : (segments bytes : ℕ) → ReplyValue
   Opened : (files : ℕ) → ReplyValue
   Refused : (refusal : Refusal) → ReplyValue
 
@@ -45,5 +46,6 @@ reply_value (given.Collecting snapshot) = Collecting snapshot
 reply_value (given.Step phase) = Step phase
 reply_value (given.Collected freed copied) = Collected freed copied
 reply_value (given.Stat holdings) = Stat holdings
+reply_value (given.Unique segments bytes) = Unique segments bytes
 reply_value (given.Opened files) = Opened files
 reply_value (given.Refused refusal) = Refused refusal

@@ -42,6 +42,8 @@ pub enum Line<'a> {
     Sweep,
     /// `stat`: what the store holds.
     Stat,
+    /// `unique`: how many keys the trees of all names have, each counted once.
+    Unique,
     /// `reopen`: all actors end, and the store is opened again.
     Reopen,
 }
@@ -102,6 +104,8 @@ fn line_of_one<'a>(word: &[u8]) -> Option<Line<'a>>
 {
     if word == b"stat".as_slice() {
         Some(Line::Stat)
+    } else if word == b"unique".as_slice() {
+        Some(Line::Unique)
     } else if word == b"reopen".as_slice() {
         Some(Line::Reopen)
     } else if word == b"list".as_slice() {

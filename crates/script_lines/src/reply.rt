@@ -9,7 +9,7 @@ use actor_parts::Actor;
 use itoa::Buffer;
 use namespace::Listing;
 use refusals::{Phase, Refusal};
-use reply_text::{listing_text, phase_word, refused_line};
+use reply_text::{listing_text, phase_word, refused_line, unique_line};
 use std::alloc::{AllocError, Global};
 
 /// What a turn did.
@@ -76,6 +76,8 @@ pub enum Reply<'a> {
     Collected { freed: u64, copied: u64 },
     /// `stat files F segments S bytes B used U free R`.
     Stat { holdings: Holdings },
+    /// `unique segments S bytes B`: the trees of all names have so many keys, each counted once, and so many bytes.
+    Unique { segments: u64, bytes: u64 },
     /// `opened FILES`: the store is open, and has so many names.
     Opened { files: u64 },
     /// `refused TEXT`: why the line was refused.
@@ -109,6 +111,7 @@ pub fn print_reply(alloc: Global, reply: &Reply<'_>) -> Result<Vec<u8>, AllocErr
         Reply::Step { phase } => step_line(alloc, phase),
         Reply::Collected { freed, copied } => collected_line(alloc, *freed, *copied),
         Reply::Stat { holdings } => stat_line(alloc, holdings),
+        Reply::Unique { segments, bytes } => unique_line(alloc, *segments, *bytes),
         Reply::Opened { files } => count_line(alloc, b"opened ", *files),
         Reply::Refused { refusal } => refused_line(alloc, refusal),
     }

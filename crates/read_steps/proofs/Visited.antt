@@ -26,8 +26,8 @@ use Rattle.store_model.specs.Files.{Files}
 use Rattle.store_model.specs.Image.{Store, names_of}
 use Rattle.store_model.specs.Reserve.{IsReachable, tree_keys}
 use Rattle.store_model.specs.Collisions.{ByteSet, IsIn}
-use Rattle.store_model.specs.Slots.{Copy, IsIndexOf, key_set_of, newest}
-use Rattle.store_model.proofs.Counted.{held_keys, indexed_keys, of_index}
+use Rattle.store_model.specs.Slots.{HasKey, IsIndexOf, IsPartialIndexOf, key_set_of, newest}
+use Rattle.store_model.proofs.Counted.{held_keys, in_index, indexed_keys, of_index}
 use Rattle.store_model.proofs.Lookups.{partial_of}
 use Rattle.store_model.specs.Standing.{IsFileOf, IsStoreOf}
 use Rattle.store_model.specs.Trees.{HoldsTree, file_tree}
@@ -37,6 +37,7 @@ use Rattle.store_model.proofs.SameFiles.{right_fits}
 use Rattle.store_model.proofs.Sound.{sound_of_right}
 use Rattle.store_model.proofs.Unfolding.{right_file, root_of_tree}
 use Rattle.read_steps.specs.Opening.{top_of}
+use Rattle.read_steps.specs.Trees.{AllHeld}
 use Rattle.read_steps.specs.Visiting.{HasPlace, IsVisited, Visits, VisitsRoots, VisitsTo, VisitsTop}
 use Rattle.read_steps.specs.Walking.{HeldAhead, IsIndexed, IsNodeRead, WasRead, top_key}
 use Rattle.read_steps.proofs.Openings.{tree_held}
@@ -186,23 +187,34 @@ module _ (store : Store) (files : Files) (image : List ℕ) (holds : IsStoreOf s
       (root_of_name (length image) store name named.root (sound_of_right (length image) image store refl holds.right) (named.sequence, found))
       (subst (λ (o : Option Named). IsFileOf store.held image o (finite.get files name)) found (holds.files_are name))
 
-  -- where a set has the keys of what is held
-  module _ (counts : ByteSet) (count : (key : List ℕ) (copy : Copy) → newest 0 store.held key ≡ Some copy → IsIn counts key) where
-    held_ahead : (root : Root) (file : Option (List ℕ)) (is : IsFileToCome store.held image file root) →
-        HeldAhead counts store.held image (start_of (top_of root)) (trees_in (file_tree is.bytes))
-    held_ahead root file is = record {
-      trees = is.ahead;
-      each = tree_held (IsIn counts) store.held image (file_tree is.bytes)
-          (record { tree_is_held = is.tree_is_held; count = held_keys (IsIn counts) store.held image count (file_tree is.bytes) is.tree_is_held });
-    }
+  -- where a set has the keys that files need
+  module _ (counts : ByteSet) (count : (key : List ℕ) → IsReachable files key → IsIn counts key) where
+    needed_ahead : (name : List ℕ) (named : Named) (found : finite.get (names_of store) name ≡ Some named) →
+        HeldAhead counts store.held image (start_of (top_of named.root)) (trees_in (file_tree (file_to_come name named found).bytes))
+    needed_ahead name named found =
+        let file = file_to_come name named found in
+        record {
+          trees = file.ahead;
+          each = tree_held (IsIn counts) store.held image (file_tree file.bytes)
+              (record { tree_is_held = file.tree_is_held; count = λ key there. count key (name, (file.bytes, (file.filed, there))) });
+        }
 
-    pub held_start : (name : List ℕ) (named : Named) → finite.get (names_of store) name ≡ Some named →
-        (ts : List (Tree (List ℕ))) × HeldAhead counts store.held image (start_of (top_of named.root)) ts
-    held_start name named found = let file = file_to_come name named found in (trees_in (file_tree file.bytes), held_ahead named.root (finite.get files name) file)
+    each_held : (es : List (List ℕ × Named)) → All (λ e. finite.get (names_of store) e.0 ≡ Some e.1) es → AllHeld counts store.held image (map named_root es)
+    each_held [] all = tt
+    each_held (e ∷ es) all = (
+      (_, needed_ahead e.0 e.1 (All-head (λ x. finite.get (names_of store) x.0 ≡ Some x.1) e es all)),
+      each_held es (All-tail (λ x. finite.get (names_of store) x.0 ≡ Some x.1) e es all),
+    )
+
+    -- so the trees of all names are held
+    pub names_held : AllHeld counts store.held image (listing_of (names_of store))
+    names_held = each_held (finite.entries (names_of store)) (entries_found (names_of store))
 
   -- ---- all names
 
-  module _ (index : PlaceMap) (old new : DiskView) (told : old.content ≡ Some image) (newest : IsIndexOf store.held index) where
+  -- where the index has each key that files need
+  module _ (index : PlaceMap) (old new : DiskView) (told : old.content ≡ Some image) (newest : IsPartialIndexOf store.held index)
+      (indexed : (key : List ℕ) → IsReachable files key → HasKey index key) where
     abbrev read : List ℕ → List ℕ → Type 0
     read = WasRead (Some index) old new
 
@@ -217,8 +229,8 @@ module _ (store : Store) (files : Files) (image : List ℕ) (holds : IsStoreOf s
         let file = file_to_come name named found in
         let counts : ByteSet = key_set_of index in
         visited_keys counts store.held (Some index) old new image (start_of (top_of named.root)) visited (trees_in (file_tree file.bytes))
-        (record { told = told; index = index; index_known = refl; index_is_newest = partial_of store.held index newest; has = λ k. of_index index k })
-        (held_ahead counts (indexed_keys store.held index newest) named.root (finite.get files name) file) way
+        (record { told = told; index = index; index_known = refl; index_is_newest = newest; has = λ k. of_index index k })
+        (needed_ahead counts (λ k reached. in_index index k (indexed k reached)) name named found) way
         ∙ keys_of_tree (file_tree file.bytes)
 
     needed_in : (name : List ℕ) (named : Named) (first rest : List Top) (key : List ℕ) → finite.get (names_of store) name ≡ Some named →
@@ -263,20 +275,41 @@ module _ (store : Store) (files : Files) (image : List ℕ) (holds : IsStoreOf s
         (visited_in name bytes e.1 named way.0 way.1.0 key (eq_by_cmp (slice_cmp nat_cmp) name e.0) (finite.find (slice_cmp nat_cmp) name es) first found filed has way.1.1.1
         (λ later. visited_by es way.1.0 name bytes key named later found filed has way.1.1.2))
 
+-- of the trees of all names just the keys are visited that can be reached of their files
+module _ (store : Store) (files : Files) (image : List ℕ) (holds : IsStoreOf store files image) (index : PlaceMap) (old new : DiskView) (visited : List Top)
+    (told : old.content ≡ Some image) (newest : IsPartialIndexOf store.held index) (indexed : (key : List ℕ) → IsReachable files key → HasKey index key)
+    (way : VisitsRoots (WasRead (Some index) old new) (HasPlace (Some index)) (listing_of (names_of store)) visited) where
+  pub reached_visited : (key : List ℕ) → IsVisited visited key → IsReachable files key
+  reached_visited key is = needed_by store files image holds index old new told newest indexed (finite.entries (names_of store)) visited key (entries_found (names_of store)) way is
+
+  pub visited_reached : (key : List ℕ) → IsReachable files key → IsVisited visited key
+  visited_reached key (name, (bytes, (filed, has))) =
+      let named = name_by store.held image (finite.get (names_of store) name) (finite.get files name) bytes filed (holds.files_are name) in
+      visited_by store files image holds index old new told newest indexed (finite.entries (names_of store)) visited name bytes key named.0
+      (sym (finite.get-entries (names_of store) name) ∙ named.1) named.1 filed has way
+
+-- an index of all that is held has them
+pub all_indexed : (store : Store) (files : Files) (image : List ℕ) (index : PlaceMap) → IsStoreOf store files image → IsIndexOf store.held index → (key : List ℕ) →
+    IsReachable files key → HasKey index key
+all_indexed store files image index holds newest key (name, (bytes, (filed, has))) =
+    let named = name_by store.held image (finite.get (names_of store) name) (finite.get files name) bytes filed (holds.files_are name) in
+    let file = file_to_come store files image holds name named.0 named.1 in
+    let same : bytes ≡ file.bytes = some_same bytes file.bytes (sym filed ∙ file.filed) in
+    of_index index key (held_keys (IsIn (key_set_of index)) store.held image (indexed_keys store.held index newest) (file_tree file.bytes) file.tree_is_held key
+    (subst (λ (b : List ℕ). Contains (tree_keys (file_tree b)) key) same has))
+
 -- what was visited is needed
 pub needed_visited : (store : Store) (files : Files) (image : List ℕ) (index : PlaceMap) (old new : DiskView) (visited : List Top) → old.content ≡ Some image →
     IsStoreOf store files image
     → IsIndexOf store.held index → VisitsRoots (WasRead (Some index) old new) (HasPlace (Some index)) (listing_of (names_of store)) visited → (key : List ℕ) →
     IsVisited visited key → IsReachable files key
 needed_visited store files image index old new visited told holds newest way key is =
-    needed_by store files image holds index old new told newest (finite.entries (names_of store)) visited key (entries_found (names_of store)) way is
+    reached_visited store files image holds index old new visited told (partial_of store.held index newest) (all_indexed store files image index holds newest) way key is
 
 -- what is needed was visited
 pub visited_needed : (store : Store) (files : Files) (image : List ℕ) (index : PlaceMap) (old new : DiskView) (visited : List Top) → old.content ≡ Some image →
     IsStoreOf store files image
     → IsIndexOf store.held index → VisitsRoots (WasRead (Some index) old new) (HasPlace (Some index)) (listing_of (names_of store)) visited → (key : List ℕ) →
     IsReachable files key → IsVisited visited key
-visited_needed store files image index old new visited told holds newest way key (name, (bytes, (filed, has))) =
-    let named = name_by store.held image (finite.get (names_of store) name) (finite.get files name) bytes filed (holds.files_are name) in
-    visited_by store files image holds index old new told newest (finite.entries (names_of store)) visited name bytes key named.0
-    (sym (finite.get-entries (names_of store) name) ∙ named.1) named.1 filed has way
+visited_needed store files image index old new visited told holds newest way key is =
+    visited_reached store files image holds index old new visited told (partial_of store.held index newest) (all_indexed store files image index holds newest) way key is

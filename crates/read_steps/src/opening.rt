@@ -22,7 +22,7 @@ fn root_in(names: &Names, name: &[u8]) -> Result<Root, Refusal>
     }
 }
 
-fn top_of(root: &Root) -> Top
+pub(crate) fn top_of(root: &Root) -> Top
     ensures { result ≡ top_of_root root.now }
 {
     Top {

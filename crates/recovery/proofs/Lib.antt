@@ -2,8 +2,7 @@ mod Blank
 mod Formatted
 mod Giving
 pub mod Inspected
-mod Marks
-mod Named
+mod MarkedSlots
 mod Opens
 mod Prelude
 mod Pushed
@@ -14,4 +13,3 @@ mod Spare
 mod Steps
 mod Storing
 mod Used
-pub mod Walked

@@ -1,49 +1,32 @@
 -- An opening: room that was made, or not, as it is told of the disk from its start on.
-use Rattle.recovery.proofs.Prelude.{◌≢◌, ◌⊎◌, inl, inr, ℕ, ◌<◌, ◌≤◌, List, [], ◌∷◌, map, Some, Ok, refl, sym, ◌∙◌, subst, PlaceMap, Done, Reads, ending_of, Shows, DiskView, IsDurable, IsLater, OnlyReads, counts_on, later_on, shown_content, until, weaker, RESERVE, CellFault, Top, NamedRoot, listing_of, Refusal, Memory, DiskRead, DiskWrite, Damaged, ByteSet, FreesSome, FreesTo, IsPartlyFreed, SameButGates, with_all_freed, Store, Encodes, names_of, Copy, IsIndexOf, free_slots, partial_of, store_once, OpenStore, blames, Represents, HasPlace, IsVisitRefusal, IsVisited, VisitsRoots, WasRead, roots_wider, MakesNoRoom, MakesRoom, AllHeld, IsStuckAmong, IsFound, cell_refusal, RoomMade, RoomUnmade, IsSlotsRefusal}
+use Rattle.recovery.proofs.Prelude.{◌≢◌, ◌⊎◌, inl, inr, ℕ, ◌<◌, ◌≤◌, List, [], ◌∷◌, Some, Ok, refl, sym, ◌∙◌, subst, PlaceMap, Done, Reads, ending_of, Shows, DiskView, IsDurable, IsLater, OnlyReads, counts_on, later_on, shown_content, until, weaker, RESERVE, CellFault, Top, NamedRoot, listing_of, Refusal, Memory, DiskRead, DiskWrite, Damaged, ByteSet, FreesSome, FreesTo, IsPartlyFreed, SameButGates, with_all_freed, Store, Encodes, names_of, IsIndexOf, free_slots, partial_of, store_once, OpenStore, blames, Represents, HasPlace, IsVisitRefusal, IsVisited, VisitsRoots, WasRead, roots_wider, MakesNoRoom, MakesRoom, AllHeld, IsStuckAmong, IsFound, cell_refusal, RoomMade, RoomUnmade, IsSlotsRefusal}
 use Rattle.std.proofs.Common.{◌≡◌}
-use Rattle.std.specs.FinMap as finite
-use Rattle.std.specs.List.{All}
-use Rattle.std.proofs.lemmas.List.Elements.{All-head, All-tail}
 use Rattle.dd_disk.proofs.Later.{reads_on}
 use Rattle.journal_cells.specs.declared.fault.CellFault.TheVariants as cell
-use Rattle.namespace.specs.declared.record.Named.{Named}
-use Rattle.namespace.specs.Listing.{named_root}
-use Rattle.namespace.proofs.Again.{entries_found}
 use Rattle.refusals.specs.declared.refusal.Refusal.TheVariants.{Corrupt, Missing}
 use Rattle.store_model.specs.Collisions.{IsIn, IsOf, OpensAs}
-use Rattle.store_model.specs.Files.{Files, Stored}
+use Rattle.store_model.specs.Files.{Stored}
 use Rattle.store_model.specs.Reserve.{IsReachable}
-use Rattle.store_model.specs.Slots.{key_set_of, newest}
-use Rattle.store_model.proofs.Counted.{indexed_keys, of_index}
+use Rattle.store_model.specs.Slots.{key_set_of}
+use Rattle.store_model.proofs.Counted.{in_index, of_index}
 use Rattle.store_model.specs.Standing.{IsStoreOf}
 use Rattle.store_model.proofs.FreedFiles.{freed_stands, partly_opens}
-use Rattle.read_steps.proofs.Visited.{held_start, needed_visited, read_earlier, visited_needed}
+use Rattle.read_steps.proofs.Visited.{all_indexed, names_held as trees_held, needed_visited, read_earlier, visited_needed}
 use Rattle.recovery.specs.Making.{IsMakeRefusal, IsWalkedFirst}
 use Rattle.recovery.specs.Room.{FreesAfterAll, IsNotFull, IsRoomRefusal, IsShort, IsStuck, ReadsStore}
-use Rattle.recovery.proofs.Marks.{among_since}
+use Rattle.read_steps.proofs.TreeWalks.{among_since}
 use Rattle.recovery.proofs.Rooms.{leaves_since}
 use Rattle.recovery.proofs.Spare.{all_by, frees_all, some_by}
 
 -- ---- files
-
--- the trees of all names are held
-all_held : (counts : ByteSet) (store : Store) (files : Files) (image : List ℕ) (holds : IsStoreOf store files image)
-    → ((key : List ℕ) (copy : Copy) → newest 0 store.held key ≡ Some copy → IsIn counts key) → (es : List (List ℕ × Named)) →
-    All (λ e. finite.get (names_of store) e.0 ≡ Some e.1) es
-    → AllHeld counts store.held image (map named_root es)
-all_held counts store files image holds count [] all = tt
-all_held counts store files image holds count (e ∷ es) all = (
-  held_start store files image holds counts count e.0 e.1 (All-head (λ x. finite.get (names_of store) x.0 ≡ Some x.1) e es all),
-  all_held counts store files image holds count es (All-tail (λ x. finite.get (names_of store) x.0 ≡ Some x.1) e es all),
-)
 
 module _ (store : Store) (among : ByteSet) (stored : Stored) (given : List ℕ) (right : Encodes given store) (opens : OpensAs (IsIn among) stored given) where
   of_store : IsStoreOf store stored.files given
   of_store = subst (λ (s : Store). IsStoreOf s stored.files given) (store_once given opens.store store opens.stands.holds.right right) opens.stands.holds
 
   names_held : (index : PlaceMap) → IsIndexOf store.held index → AllHeld (key_set_of index) store.held given (listing_of (names_of store))
-  names_held index all = all_held (key_set_of index) store stored.files given of_store (indexed_keys store.held index all) (finite.entries (names_of store))
-      (entries_found (names_of store))
+  names_held index all =
+      trees_held store stored.files given of_store (key_set_of index) (λ key needed. in_index index key (all_indexed store stored.files given index of_store all key needed))
 
   opens_none : (c : List ℕ) → IsPartlyFreed store [] given c → OpensAs (IsIn among) stored c
   opens_none c part = partly_opens (IsIn among) (IsReachable stored.files) stored store [] given c (λ key is. is) (λ key is. is) opens right tt part

@@ -43,14 +43,14 @@ pub use Rattle.namespace.specs.Listing.{NamedRoot, listed_value, listing_of}
 pub use Rattle.namespace.specs.declared.listing.ListedName.{ListedName}
 pub use Rattle.read_steps.proofs.Visited.{roots_wider}
 pub use Rattle.read_steps.specs.Opening.{top_of}
+pub use Rattle.read_steps.specs.Trees.{AllHeld, IsStuckAmong, IsTreesRefusal, WhereHeld}
 pub use Rattle.read_steps.specs.Visiting.{HasPlace, IsVisitRefusal, IsVisited, Visits, VisitsRoots, VisitsTo, steps_ahead}
 pub use Rattle.read_steps.specs.Walking.{WasRead, top_key}
 pub use Rattle.recovery.specs.Formatting.{IsBlankOrFormatted, StaysBlank}
 pub use Rattle.recovery.specs.Inspecting.{AreCounted, image_found, nothing_counted}
 pub use Rattle.recovery.specs.Making.{GivesBack, IsGiving, IsLeastIn, IsLeastOf, IsReady, LeavesFreed, MakesNoRoom, MakesRoom, StopsGiving}
-pub use Rattle.recovery.specs.Marking.{AllHeld, IsHeld, IsMarkRefusal, IsMarked, IsMarkingAll, IsStuckAmong, MarksAll, Walks, WalksRoots, WhereHeld, ahead_of, walk_state}
+pub use Rattle.recovery.specs.Marking.{IsMarked}
 pub use Rattle.recovery.specs.Opening.{IsFormatRefusal, IsFound, IsOpenRefusal, cell_refusal}
-pub use Rattle.recovery.specs.Passed.{HasNode, NodeSet, NotesNext, WasNoted, node_key}
 pub use Rattle.recovery.specs.Room.{RoomMade, RoomUnmade}
 pub use Rattle.recovery.specs.Slots.{AreSlots, HoldsDamage, IsSlotDamage, IsSlotsRefusal}
 pub use Rattle.refusals.specs.declared.refusal.Refusal.{Refusal}

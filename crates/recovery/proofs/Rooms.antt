@@ -1,6 +1,6 @@
 -- Room that is made, or not: the walk of all trees, and then containers that are given back.
-use Rattle.recovery.proofs.Prelude.{◌⊎◌, inl, inr, ℕ, zero, suc, Bool, true, false, List, [], length, get_or, Some, Result, Ok, Err, OnOk, OnErr, refl, sym, ◌∙◌, ap, subst, arith, Place, PlaceMap, CountsFault, Reads, ending, ending_of, DiskView, IsLater, IsDurable, OnlyReads, counts_on, later_on, leaves_on, reads_leave, size_of, Top, NamedRoot, listing_of, Refusal, DiskWrite, IsPartlyFreed, Store, IsValidFor, names_of, Copy, IsIndexOf, free_slots, ids_of, partial_of, OpenStore, blames, fails, Represents, HasPlace, IsVisited, VisitsRoots, WasRead, roots_wider, IsMarked, MarksAll, IsMarkRefusal, WhereHeld, AllHeld, IsReady, LeavesFreed, GivesBack, StopsGiving, MakesRoom, MakesNoRoom}
-use Rattle.std.proofs.Common.{◌≡◌, replicate, IfErr, IsTrue}
+use Rattle.recovery.proofs.Prelude.{◌⊎◌, inl, inr, ℕ, Bool, true, false, List, [], length, get_or, Some, Result, Ok, Err, OnOk, OnErr, refl, sym, ◌∙◌, ap, subst, Place, PlaceMap, CountsFault, Reads, ending, ending_of, DiskView, IsLater, IsDurable, OnlyReads, counts_on, later_on, leaves_on, reads_leave, size_of, Top, NamedRoot, listing_of, Refusal, DiskWrite, IsPartlyFreed, Store, IsValidFor, names_of, Copy, IsIndexOf, free_slots, ids_of, partial_of, OpenStore, blames, fails, Represents, HasPlace, IsVisited, VisitsRoots, WasRead, roots_wider, IsMarked, IsTreesRefusal, WhereHeld, AllHeld, IsReady, LeavesFreed, GivesBack, StopsGiving, MakesRoom, MakesNoRoom}
+use Rattle.std.proofs.Common.{◌≡◌, IfErr, IsTrue}
 use Rattle.std.specs.Prelude.{option_map}
 use Rattle.std.specs.FinMap as finite
 use Rattle.store_model.proofs.Lookups.{finds}
@@ -11,26 +11,6 @@ use Rattle.recovery.specs.Making.{AreMarks}
 use Rattle.recovery.proofs.Giving.{part_none}
 
 -- ---- marks
-
-none_replicated : (n slot : ℕ) → get_or (replicate n false) slot false ≡ false
-none_replicated zero slot = refl
-none_replicated (suc n) zero = refl
-none_replicated (suc n) (suc slot) = none_replicated n slot
-
-none_marked : (index : PlaceMap) (n : ℕ) → IsMarked index [] (replicate n false)
-none_marked index n = record {
-  all = λ key place is there. absurd (omega (arith, is.1));
-  only = λ slot is. absurd (let wrong : false ≡ true = sym (none_replicated n slot) ∙ is in cc);
-}
-
-pub marks_for : (index : PlaceMap) (old new : DiskView) (roots all : List NamedRoot) (used marked taken : List Bool) (n : ℕ) → all ≡ roots → used ≡ replicate n false →
-    MarksAll index old new all used marked
-    → taken ≡ marked → MarksFor index old new roots taken
-marks_for index old new roots all used marked taken n same none marks is = record {
-  visited = marks.visited;
-  visits = subst (λ (ns : List NamedRoot). VisitsRoots (WasRead (Some index) old new) (HasPlace (Some index)) ns marks.visited) same marks.visits;
-  marks = subst (IsMarked index marks.visited) (sym is) (marks.adds [] (subst (IsMarked index []) (sym none) (none_marked index n)));
-}
 
 -- marks by the index are those by the newest copies
 are_marks : (store : Store) (index : PlaceMap) (visited : List Top) (used : List Bool) → IsIndexOf store.held index → IsMarked index visited used →
@@ -115,7 +95,7 @@ module _ (store : Store) (index : PlaceMap) (old mid new : DiskView) (reads : On
 
 -- the walk was not done
 pub walk_failed : (store : Store) (index : PlaceMap) (old new : DiskView) (refusal : Refusal) → IsDurable old → Reads (ending_of (blames refusal)) old new →
-    IsMarkRefusal index old new (listing_of (names_of store)) refusal
+    IsTreesRefusal index old new (listing_of (names_of store)) refusal
     → WhereHeld index old.content (λ counts held image. AllHeld counts held image (listing_of (names_of store))) (λ counts held image. IsTrue (fails refusal)) →
     MakesNoRoom store index refusal old new
 walk_failed store index old new refusal durable reads cause failed = record {

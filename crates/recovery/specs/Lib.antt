@@ -3,6 +3,5 @@ pub mod Inspecting
 pub mod Making
 pub mod Marking
 pub mod Opening
-pub mod Passed
 pub mod Room
 pub mod Slots

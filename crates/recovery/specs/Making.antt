@@ -20,9 +20,9 @@ use Rattle.store_model.specs.Slots.{free_slots, ids_of}
 use Rattle.store_state.specs.declared.open_store.OpenStore.{OpenStore}
 use Rattle.store_state.specs.Refused.{blames, fails}
 use Rattle.store_state.specs.State.{Represents}
+use Rattle.read_steps.specs.Trees.{AllHeld, IsTreesRefusal, WhereHeld}
 use Rattle.read_steps.specs.Visiting.{HasPlace, IsVisited, VisitsRoots}
 use Rattle.read_steps.specs.Walking.{WasRead}
-use Rattle.recovery.specs.Marking.{AllHeld, IsMarkRefusal, WhereHeld}
 
 -- ---- the slot of the least id
 
@@ -135,7 +135,7 @@ IsWalkedFirst store index refusal old new freed =
 -- why not: a write failed, memory ran out, or a walk could not go on
 abbrev pub IsMakeRefusal : Store → PlaceMap → DiskView → DiskView → Refusal → Type 0
 IsMakeRefusal store index old new refusal =
-    (refusal ≡ DiskWrite) ⊎ (OnlyReads old new × IsMarkRefusal index old new (listing_of (names_of store)) refusal)
+    (refusal ≡ DiskWrite) ⊎ (OnlyReads old new × IsTreesRefusal index old new (listing_of (names_of store)) refusal)
 
 pub record MakesNoRoom (store : Store) (index : PlaceMap) (refusal : Refusal) (old new : DiskView) : Type 0 where
   pub later : IsLater old new

@@ -7,9 +7,8 @@
 mod formatting;
 mod freeing;
 mod inspecting;
-mod marking;
+mod marks;
 mod opening;
-mod passed;
 mod room;
 mod slots;
 mod unopened;

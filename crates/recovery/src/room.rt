@@ -9,14 +9,16 @@ ghost use Rattle.store_model.specs.Image.{Store, IsValidFor};
 ghost use Rattle.store_model.specs.Slots.{free_slots};
 ghost use Rattle.store_state.specs.Refused.{blames, fails};
 ghost use Rattle.store_state.specs.State.{Represents};
-ghost use Rattle.recovery.specs.Marking.{AllHeld, IsMarkRefusal, MarksFor, WhereHeld};
+ghost use Rattle.read_steps.specs.Trees.{AllHeld, IsTreesRefusal, WhereHeld};
+ghost use Rattle.recovery.specs.Marking.{MarksFor};
 ghost use Rattle.recovery.specs.Making.{IsRead, MakesRoom, MakesNoRoom};
 
 use crate::freeing::give_back;
-use crate::marking::mark_all;
+use crate::marks::Marks;
 use dd_disk::Disk;
 use disk_format::MOST_SEGMENT;
 use namespace::Names;
+use read_steps::walk_trees;
 use refusals::Refusal;
 use segment_index::StoreIndex;
 use std::alloc::Global;
@@ -34,23 +36,23 @@ fn mark_needed<D: Disk>(
     requires slots { (D.view disk.old).size ≡ size_of slots }
     ensures marks { IfOk result (λ used. MarksFor index.old (D.view disk.old) (D.view disk.new) (listing_of names.now) used.items) }
     ensures size { IfOk result (λ used. length used.items ≡ slots) }
-    ensures refused { IfErr result (IsMarkRefusal index.old (D.view disk.old) (D.view disk.new) (listing_of names.now)) }
+    ensures refused { IfErr result (IsTreesRefusal index.old (D.view disk.old) (D.view disk.new) (listing_of names.now)) }
     ensures failed { IfErr result (λ refusal. WhereHeld index.old (D.view disk.old).content
         (λ counts held image. AllHeld counts held image (listing_of names.now)) (λ _ _ _. IsTrue (fails refusal))) }
     ensures reads { Reads (ending blames result) (D.view disk.old) (D.view disk.new) }
 {
     let files = names.files(alloc)?;
-    let mut used = vec![in alloc; false; slots as usize]?;
+    let mut marks = Marks::new(alloc, slots)?;
     let mut buf = vec![in alloc; 0u8; MOST_SEGMENT as usize]?;
-    mark_all(
+    walk_trees(
         alloc,
         disk,
         index,
         files.names(),
-        used.as_mut_slice(),
+        &mut marks,
         buf.as_mut_slice(),
     )?;
-    Ok(used)
+    Ok(marks.into_slots())
 }
 
 /// Gives back containers that no name needs, the one of the least id first, until two slots are closed or no such is left:

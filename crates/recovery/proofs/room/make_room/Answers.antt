@@ -1,4 +1,4 @@
-use Rattle.recovery.proofs.Prelude.{List, ◌≤◌, ℕ, length, ap, sym, subst, ◌∙◌, passed_on, size_of, NamedRoot, listing_of, AllHeld, IsMarkRefusal, few_ids, partial_of}
+use Rattle.recovery.proofs.Prelude.{List, ◌≤◌, ℕ, length, ap, sym, subst, ◌∙◌, passed_on, size_of, NamedRoot, listing_of, AllHeld, IsTreesRefusal, few_ids, partial_of}
 use Rattle.disk_format.specs.declared.numbers.TheConstants.{MOST_SLOTS}
 use Rattle.store_state.proofs.Serving.{index_serves}
 use Rattle.recovery.proofs.Rooms.{by_given, by_stopped, makes_room, marks_of, size_ids, slots_ids, stops_room, walk_failed}
@@ -22,7 +22,7 @@ returns-in_err-used-clause-unmade g c =
     let index = c.args.opened.containers.index in
     passed_on c.from_residual.result _ error c.from_residual.ensures.1 (λ store represents valid free.
     walk_failed store index old mid error c.requires.durable c.in_err-used.ensures.reads
-    (subst (λ (ns : List NamedRoot). IsMarkRefusal index old mid ns error) (ap listing_of represents.journal.names_are) c.in_err-used.ensures.refused)
+    (subst (λ (ns : List NamedRoot). IsTreesRefusal index old mid ns error) (ap listing_of represents.journal.names_are) c.in_err-used.ensures.refused)
     (λ counts held image indexed all. c.in_err-used.ensures.failed counts held image indexed
     (subst (AllHeld counts held image) (sym (ap listing_of represents.journal.names_are)) all)))
 

@@ -1,7 +1,7 @@
 -- What an answer does to a session.
 use Rattle.ingest_session.proofs.Prelude.{◌≡◌, ◌<◌, Bool, true, false, refl, sym, subst, arith, Answer, Held, Absent, Sealed, Due, Claim, Seal, Nothing, due_in, due_node, item_due, item_kind, History, HasHistory, SealsSome, Told, answered, IsSession, SessionState, turn_node, IsAnswerFor, IsSettled, told_by, to_do}
 use Rattle.std.proofs.Common.{if◌then◌else◌}
-use Rattle.actor_parts.specs.declared.step.Answer.TheVariants.{Started, Did, Done, Begun, Committed, Aborted, Opened, Bytes, End, Dropped, Deleted, Listed, Stat}
+use Rattle.actor_parts.specs.declared.step.Answer.TheVariants.{Started, Did, Done, Begun, Committed, Aborted, Opened, Bytes, End, Dropped, Deleted, Listed, Stat, Unique}
 use Rattle.ingest_session.specs.Told.{sealed_by}
 use Rattle.ingest_session.proofs.SealsSome.{seals_some}
 use Rattle.ingest_session.proofs.Working.{absent_is_less, placed_is_less, sealed_is_less}
@@ -42,6 +42,7 @@ told_is_less s (Started snapshot) sound settled right = absurd right
 told_is_less s (Did phase) sound settled right = absurd right
 told_is_less s (Done freed copied) sound settled right = absurd right
 told_is_less s (Stat files segments bytes used free) sound settled right = absurd right
+told_is_less s (Unique segments bytes) sound settled right = absurd right
 
 pub told_has_less_to_do : (s t : SessionState) (answer : Answer) → t ≡ told_by answer s → IsSession s → IsSettled s →
     IsAnswerFor answer s → to_do t < to_do s

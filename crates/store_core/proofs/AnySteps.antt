@@ -21,6 +21,7 @@ gc_or_not (asked.Delete name) = inr tt
 gc_or_not asked.ListNames = inr tt
 gc_or_not (asked.GcStart percent) = inr tt
 gc_or_not asked.Stat = inr tt
+gc_or_not asked.Unique = inr tt
 
 -- the changes of a step that no collection makes
 changes_same : (step : StepValue) (answer : Result Answer Refusal) → IsNoGcStep step → AreChangesBy step answer (changes_by step answer)
@@ -37,6 +38,7 @@ changes_same (asked.Delete name) answer other = refl
 changes_same asked.ListNames answer other = refl
 changes_same (asked.GcStart percent) answer other = refl
 changes_same asked.Stat answer other = refl
+changes_same asked.Unique answer other = refl
 
 -- the same step by another name
 abbrev pub with_step : FileEvent → StepValue → FileEvent

@@ -30,6 +30,7 @@ refused_none (asked.Delete name) refusal = refl
 refused_none asked.ListNames refusal = refl
 refused_none (asked.GcStart percent) refusal = refl
 refused_none asked.Stat refusal = refl
+refused_none asked.Unique refusal = refl
 
 -- a refusal leaves a collection, but for its live keys
 refused_live : (old new : CoreState) (b : Collection) (stage : Stage) (next : Next) (refusal : Refusal) (a : Collection)
@@ -191,6 +192,7 @@ module _ (old new : CoreState) (b : Collection) (ran : old.collection ≡ Some b
   step_leaves actor buf (asked.GcStart percent) answer up goes_on row effect collects = start_leaves percent answer row effect.tables
   step_leaves actor buf asked.GcStep answer up goes_on row effect collects = gc_leaves answer goes_on row
   step_leaves actor buf asked.Stat answer up goes_on row effect collects = kept asked.Stat answer refl (ap (λ (t : Tables). t.held) effect.tables.tables_are) collects
+  step_leaves actor buf asked.Unique answer up goes_on row effect collects = kept asked.Unique answer refl (ap (λ (t : Tables). t.held) effect.tables.tables_are) collects
 
   event_leaves : (e : Event) (stop : Option Stop) → StepsOr stop e old new → UnlessStopped stop (IsUp old) → IsNoEnd e.answer → Leaves e.step e.answer b old new
   event_leaves e None steps up goes_on = step_leaves e.actor e.buf e.step e.answer up goes_on steps.made.row steps.made.effect steps.collects

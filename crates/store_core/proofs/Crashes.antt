@@ -310,6 +310,7 @@ module _ (among : ByteSet) (s : Store) (stored : Stored) (old new : CoreState) (
   by_effect (asked.GcStart percent) answer effect right given = by_reads (asked.GcStart percent) answer effect.disk.only
   by_effect asked.GcStep answer effect right given = by_gc answer old.collection at.under_way (at.safe at.stands.known.0 at.stands.known.1) effect.touches
   by_effect asked.Stat answer effect right given = by_reads asked.Stat answer effect.disk.only
+  by_effect asked.Unique answer effect right given = by_reads asked.Unique answer effect.disk.only
 
   by_stop : (stop : Option Stop) (f : FileEvent) → f.bytes ≡ bytes → StepsOr stop f.event old new → IsStep f.event.step → IsGivenRight S f.event.step f.event.answer bytes old
       → CrashLeaves (Either S f.event.step f.event.answer bytes stored) old.disk new.disk

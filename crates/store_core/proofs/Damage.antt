@@ -1,23 +1,28 @@
 -- No step of a core that is at a store finds damage, or misses what a file needs.
 use Rattle.store_core.proofs.Prelude.{some_same, ◌≡◌, ◌≢◌, ◌<◌, ℕ, zero, suc, List, [], ◌∷◌, length, Option, Some, None, Result, Ok, Err, refl, sym, ◌∙◌, ap, subst, arith, AllByRecursion, sha256, key_of, Shows, shown_content, Kind, Place, kind_byte, Segment, KindSegment, Root, Top, NameMap, Answer, StepValue, Refusal, HasNoCollisions, ByteSet, IsIn, IsAmong, Stands, Stored, Store, names_of, newest, bytes_at, copy_digest, newest_so, IsNodeEntry, nodes_so, IsAmongThese, among_so, Stop, Row, ClaimRow, SealRow, CommitRow, OpenRow, ReadRow, EndRow, DeleteRow, ListRow, IsNotGiven, StepsOr, FileEvent, FileStep, IsAt, IsGivenRight, IsSafeIn, CoreState, IsUnderWayIn, Collection, Filter, Mark, Select, GcRow, IsNotMade, StartRow, IsSafeAt, PlaceMap, Represents, Stage, moment, IsStepRefusal, Memory, roots_of}
 use Rattle.std.proofs.Common.{get_or, option_map, IfErr}
-use Rattle.std.specs.Prelude.{slice_get, take}
+use Rattle.std.specs.Prelude.{IsTrue, slice_get, take}
 use Rattle.container_meta.specs.declared.kind.Kind.TheVariants as kinds
 use Rattle.container_meta.specs.Segments.{Contents, segment_at}
 use Rattle.actor_parts.specs.Offers.{IsOffer}
 use Rattle.actor_parts.specs.StepValue as asked
+use Rattle.namespace.specs.Listing.{listing_of}
 use Rattle.refusals.specs.declared.refusal.PartKind.{PartKind}
 use Rattle.refusals.specs.declared.refusal.PartKind.TheVariants as part
 use Rattle.refusals.specs.declared.refusal.Difference.TheVariants.{Length, Byte}
 use Rattle.refusals.specs.declared.refusal.Refusal.TheVariants as refusals
-use Rattle.store_model.specs.Slots.{Copy}
+use Rattle.store_model.specs.Slots.{Copy, key_set_of}
 use Rattle.store_model.specs.Trees.{IsNodeOf}
+use Rattle.store_model.proofs.Counted.{in_index, of_index}
 use Rattle.store_model.proofs.Roots.{length_of_copy}
 use Rattle.store_state.specs.Comparing.{IsUnlike}
+use Rattle.store_state.specs.Refused.{fails}
 use Rattle.read_steps.specs.Readers.{IsStuck}
+use Rattle.read_steps.specs.Trees.{AllHeld}
 use Rattle.read_steps.specs.Walking.{IsHeldAnswer}
+use Rattle.read_steps.proofs.Visited.{names_held}
 use Rattle.ingest_steps.specs.Offering.{IsFirstUnlikeIn}
-use Rattle.store_core.specs.Core.{IsAtOther}
+use Rattle.store_core.specs.Core.{IsAtOther, IsUncounted}
 use Rattle.store_core.specs.Runs.{AreAmong}
 use Rattle.store_core.proofs.ManySealed.{all_taken}
 use Rattle.store_core.proofs.OwnParts.{stuck_held}
@@ -291,6 +296,27 @@ module _ (among : ByteSet) (s : Store) (stored : Stored) (old new : CoreState) (
     list_harmless refusals.Memory row = tt
     list_harmless refusal row = absurd row
 
+    -- the trees of all names are held, so no walk of them is stuck
+    unique_fails : (refusal : Refusal) → IsUncounted refusal old new → IsTrue (fails refusal)
+    unique_fails refusal row =
+        row.held at.index at.index_known (key_set_of at.index) s.held image (record {
+          told = here;
+          index = at.index;
+          index_known = refl;
+          index_is_newest = at.represents.index_is_newest at.index at.index_known;
+          has = λ key. of_index at.index key;
+        })
+        (subst (λ (names : NameMap). AllHeld (key_set_of at.index) s.held image (listing_of names)) (sym at.represents.names_are.names_are)
+        (names_held s stored.files image stands_here.holds (key_set_of at.index)
+        (λ key needed. in_index at.index key ((at.invariant image here).files_are_indexed key needed))))
+
+    unique_harmless : (refusal : Refusal) → IsUncounted refusal old new → IsHarmless ⊥ refusal
+    unique_harmless (refusals.Clash key d) row = absurd (let wrong = unique_fails (refusals.Clash key d) row in cc)
+    unique_harmless (refusals.Corrupt slot offset count want got) row = absurd (let wrong = unique_fails (refusals.Corrupt slot offset count want got) row in cc)
+    unique_harmless (refusals.Missing key) row = absurd (let wrong = unique_fails (refusals.Missing key) row in cc)
+    unique_harmless (refusals.Damaged at_byte why) row = absurd (let wrong = unique_fails (refusals.Damaged at_byte why) row in cc)
+    unique_harmless refusal row = tt
+
     end_harmless : (refusal : Refusal) → EndRow actor (Err refusal) old new → IsHarmless ⊥ refusal
     end_harmless (refusals.Clash key d) row = absurd row
     end_harmless (refusals.Corrupt slot offset count want got) row = absurd row
@@ -354,6 +380,7 @@ module _ (among : ByteSet) (s : Store) (stored : Stored) (old new : CoreState) (
     step_harmless (asked.GcStart percent) refusal given row = start_harmless percent refusal row
     step_harmless asked.GcStep refusal given row = gc_harmless refusal row
     step_harmless asked.Stat refusal given row = absurd row
+    step_harmless asked.Unique refusal given row = unique_harmless refusal row
 
     pub answer_harmless : (step : StepValue) (answer : Result Answer Refusal) → IsGivenRight (IsIn among) step answer bytes old → Row step actor answer buf old new
         → IfErr answer (λ refusal. IsHarmless (MayClash step) refusal)

@@ -38,7 +38,7 @@ use Rattle.store_core.specs.Finding.{FindsKeysMeanwhile, RunBeforeSweep}
 use Rattle.store_core.proofs.CoreRuns.{running_step, runs_before, was_running}
 use Rattle.store_core.proofs.BeforeSweep.{HasGoneOn, HasNotGoneOn, gc_goes, has_not_scanned, has_scanned, same_running}
 use Rattle.store_core.proofs.Rooms.{free_held}
-use Rattle.store_core.proofs.RootsKept.{abort_none, begin_none, end_none, list_none, none_same, open_none, read_none, stat_none, within_parts}
+use Rattle.store_core.proofs.RootsKept.{abort_none, begin_none, end_none, list_none, none_same, open_none, read_none, stat_none, unique_none, within_parts}
 use Rattle.store_core.proofs.RunningOn.{seal_kept, step_runs}
 use Rattle.store_core.proofs.SafeSteps.{stored_pin}
 use Rattle.store_core.proofs.ManySealed.{all_taken, comes_all, has_keys, none_sealed, pins_all}
@@ -480,6 +480,8 @@ module _ (first : List (Option HeaderValue)) (roots : RootKeys) where
         step_goes (asked.GcStart percent) answer right apart row effect collects stops = not_begun percent answer row effect
         step_goes asked.GcStep answer right apart row effect collects stops = own_step (apart refl) answer row effect
         step_goes asked.Stat answer right apart row effect collects stops = part_rests answer collects effect (stat_none old.tables.names old new actor buf refl up.many answer row)
+        step_goes asked.Unique answer right apart row effect collects stops = part_rests answer collects effect
+            (unique_none old.tables.names old new actor buf refl up.many answer row)
 
   -- ---- steps, one after the other
 

@@ -4,7 +4,7 @@ use Rattle.actor_parts.specs.Asking.{IsAnswerTo}
 use Rattle.actor_parts.specs.StepValue as asked
 use Rattle.actor_parts.specs.declared.step.Answer.TheVariants as answers
 use Rattle.store_core.specs.Core.{AnswersFit}
-use Rattle.store_core.proofs.Prelude.{ℕ, List, Option, Some, None, Result, Ok, Err, Answer, StepValue, Refusal, Stop, StepsOr, Row, CoreState, Event}
+use Rattle.store_core.proofs.Prelude.{ℕ, List, Option, Some, None, Result, Ok, Err, Answer, StepValue, Refusal, Stop, StepsOr, Row, CoreState}
 
 module _ (actor : ℕ) (buf : List ℕ) (old new : CoreState) where
   row_fits : (step : StepValue) (answer : Answer) → Row step actor (Ok answer) buf old new → IsAnswerTo step answer
@@ -36,6 +36,8 @@ module _ (actor : ℕ) (buf : List ℕ) (old new : CoreState) where
   row_fits asked.GcStep (answers.Done freed copied) row = tt
   row_fits asked.GcStep answer row = absurd row
   row_fits asked.Stat answer row = tt
+  row_fits asked.Unique (answers.Unique segments bytes) row = tt
+  row_fits asked.Unique answer row = absurd row
 
   step_fits : (stop : Option Stop) (step : StepValue) (answer : Result Answer Refusal)
       → StepsOr stop (record { actor = actor; step = step; answer = answer; buf = buf }) old new → IfOk answer (IsAnswerTo step)

@@ -340,6 +340,7 @@ module _ (s : Store) (base : List ℕ) (t : Store) (old new : CoreState) (framed
     by_effect (asked.GcStart percent) answer other few effect = by_reads effect.disk.only
     by_effect asked.GcStep answer other few effect = absurd other
     by_effect asked.Stat answer other few effect = by_reads effect.disk.only
+    by_effect asked.Unique answer other few effect = by_reads effect.disk.only
 
     step_leaves : (e : Event) (stop : Option Stop) → IsNoGcStep e.step → commands_of e.step ≤ left → StepsOr stop e old new → CrashLeaves Written old.disk new.disk
     step_leaves e None other few steps = by_effect e.step e.answer other few steps.made.effect
@@ -562,6 +563,7 @@ module _ (s : Store) (base : List ℕ) (t : Store) (old new : CoreState) (framed
     leads actor buf (asked.GcStart percent) answer other row effect stops calm = rests answer effect calm
     leads actor buf asked.GcStep answer other row effect stops calm = absurd other
     leads actor buf asked.Stat answer other row effect stops calm = rests answer effect calm
+    leads actor buf asked.Unique answer other row effect stops calm = rests answer effect calm
 
     pub step_leads : (e : Event) → IsNoGcStep e.step → Steps e old new → Leads s base (changes_by e.step e.answer) t new
     step_leads e other steps =

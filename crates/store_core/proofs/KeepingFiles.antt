@@ -20,9 +20,9 @@ use Rattle.ingest_steps.specs.SealingAll.{KeepsAllHeld, MayAllSeal, sealing_all}
 use Rattle.store_core.specs.Runs.{AreAmong}
 use Rattle.store_core.specs.Core.{AreSealed, Makes, changed_by, seals_from}
 use Rattle.store_core.proofs.CoreRuns.{runs_before, core_run}
-use Rattle.store_core.proofs.OwnParts.{all_part, all_own, own_begin, own_claim, own_abort, own_open, own_read, own_drop, own_set, own_stat, own_list, own_refused}
+use Rattle.store_core.proofs.OwnParts.{all_part, all_own, own_begin, own_claim, own_abort, own_open, own_read, own_drop, own_set, own_stat, own_unique, own_list, own_refused}
 use Rattle.store_core.proofs.Stepping.{ChangesOne, row_one}
-use Rattle.store_core.proofs.RootsKept.{abort_none, begin_none, end_none, list_none, open_none, read_none, stat_none}
+use Rattle.store_core.proofs.RootsKept.{abort_none, begin_none, end_none, list_none, open_none, read_none, stat_none, unique_none}
 use Rattle.store_core.proofs.SafeSteps.{IsSafeFor, begun_safe, claim_safe, committed_safe, deleted_safe, none_rested, runs_alone, sealed_safe_in, start_parts, still_rested, unchanged_safe, unsealed_safe}
 use Rattle.store_core.proofs.RunningOn.{seal_kept, sealed_first, sealed_some, under_way_on}
 use Rattle.store_core.proofs.ManySealed.{all_sealed, all_taken, may_placed, rest_on, room_left}
@@ -334,6 +334,13 @@ module _ (among : ByteSet) (s : Store) (stored : Stored) (old new : CoreState) (
       (own_stat among s stored.files image at.index actor buf old new here at.index_known newest_index invariant_here.files_are_indexed at.represents.names_are.names_are
       stands_here distinct holds answer row)
 
+  unique_next : (answer : Result Answer Refusal) → Goes asked.Unique answer
+  unique_next answer row effect collects stops right given =
+      part_rests asked.Unique answer row effect (goes_under_way asked.Unique answer row effect collects) collects
+      (none_rested among s stored old new actor buf at (unique_none (names_of s) old new actor buf at.represents.names_are.names_are at.many answer row))
+      (own_unique among s stored.files image at.index actor buf old new here at.index_known newest_index invariant_here.files_are_indexed at.represents.names_are.names_are
+      stands_here distinct holds answer row)
+
   own_still : new.parts ≡ old.parts → Own
   own_still = own_refused among s stored.files image at.index actor buf old new here at.index_known newest_index invariant_here.files_are_indexed at.represents.names_are.names_are
       stands_here distinct holds
@@ -518,6 +525,7 @@ module _ (among : ByteSet) (s : Store) (stored : Stored) (old new : CoreState) (
   step_next (asked.GcStart percent) answer other = start_next percent answer
   step_next asked.GcStep answer other = absurd other
   step_next asked.Stat answer other = stat_next answer
+  step_next asked.Unique answer other = unique_next answer
 
 -- ---- a run
 

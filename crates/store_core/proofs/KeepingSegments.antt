@@ -134,6 +134,7 @@ module _ (old new : CoreState) (stays : new.stop ≡ None) (given : List ℕ) (h
   effect_settled (asked.GcStart percent) answer other stops effect = reads_settled effect.disk.only
   effect_settled asked.GcStep answer other stops effect = absurd other
   effect_settled asked.Stat answer other stops effect = reads_settled effect.disk.only
+  effect_settled asked.Unique answer other stops effect = reads_settled effect.disk.only
 
   -- ---- a step of a collection
 

@@ -1,5 +1,5 @@
 -- What the actor of a step is at afterwards is held.
-use Rattle.store_core.proofs.Prelude.{◌≡◌, ◌≤◌, ℕ, zero, suc, List, [], ◌∷◌, length, Some, None, Result, Ok, Err, refl, sym, ◌∙◌, ap, subst, AllByRecursion, Root, PlaceMap, KindSegment, Top, Part, Idle, Writing, Answer, Refusal, SegmentsAhead, HasNoCollisions, ByteSet, IsIn, IsAmong, Stands, Files, Store, names_of, MOST_FILE, FitsFile, files_fit, root_of_tree, top_of, key_set, tree_keys, HasKey, IsPartialIndexOf, file_tree, contained, HoldsPart, HoldsRest, IndexesFiles, BeginRow, ClaimRow, AbortRow, OpenRow, ReadRow, EndRow, StatRow, ListRow, IsNotGiven, CoreState}
+use Rattle.store_core.proofs.Prelude.{◌≡◌, ◌≤◌, ℕ, zero, suc, List, [], ◌∷◌, length, Some, None, Result, Ok, Err, refl, sym, ◌∙◌, ap, subst, AllByRecursion, Root, PlaceMap, KindSegment, Top, Part, Idle, Writing, Answer, Refusal, SegmentsAhead, HasNoCollisions, ByteSet, IsIn, IsAmong, Stands, Files, Store, names_of, MOST_FILE, FitsFile, files_fit, root_of_tree, top_of, key_set, tree_keys, HasKey, IsPartialIndexOf, file_tree, contained, HoldsPart, HoldsRest, IndexesFiles, BeginRow, ClaimRow, AbortRow, OpenRow, ReadRow, EndRow, StatRow, UniqueRow, ListRow, IsNotGiven, CoreState}
 use Rattle.std.specs.FinMap as finite
 use Rattle.std.specs.Ordering.{nat_cmp}
 use Rattle.std.specs.Cmp.Lexicographic.{slice_cmp}
@@ -195,6 +195,11 @@ module _ (among : ByteSet) (store : Store) (files : Files) (image : List ℕ) (p
   pub own_stat : (answer : Result Answer Refusal) → StatRow answer old new → Own
   own_stat (Ok answer) row = own_same row.1
   own_stat (Err refusal) row = absurd row
+
+  pub own_unique : (answer : Result Answer Refusal) → UniqueRow answer old new → Own
+  own_unique (Ok (answers.Unique segments bytes)) row = own_same row.parts_are
+  own_unique (Err refusal) row = own_same row.parts_are
+  own_unique answer row = absurd row
 
   pub own_list : (answer : Result Answer Refusal) → ListRow answer old new → Own
   own_list (Ok (answers.Listed listed)) row = own_same row.1

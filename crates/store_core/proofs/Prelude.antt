@@ -98,7 +98,7 @@ pub use Rattle.segment_index.specs.Places.{HasPlaces}
 pub use Rattle.sha2.specs.Sha256.{sha256}
 pub use Rattle.store_core.specs.Bounds.{IsNoEnd, NoneEnds, starts}
 pub use Rattle.store_core.specs.Collecting.{Collects, GcEffect, GcRow, GoesOn, HasEnded, IsKeptKey, IsNotMade, MarksIn, Restores, StartRow, TouchesBy, at_moment}
-pub use Rattle.store_core.specs.Core.{AbortRow, BeginRow, ChangesTo, ClaimRow, CommitRow, CoreStep, DeleteRow, Effect, EndRow, IndexesAll, IsNotGiven, KeepsTables, KeepsUnlessBroken, ListRow, Made, NamesOne, OpenRow, ReadRow, Rests, Row, SealRow, SealsSome, StatRow, Steps, StepsOr, StopsAfter, counted, next_id}
+pub use Rattle.store_core.specs.Core.{AbortRow, BeginRow, ChangesTo, ClaimRow, CommitRow, CoreStep, DeleteRow, Effect, EndRow, IndexesAll, IsNotGiven, KeepsTables, KeepsUnlessBroken, ListRow, Made, NamesOne, OpenRow, ReadRow, Rests, Row, SealRow, SealsSome, StatRow, Steps, StepsOr, StopsAfter, UniqueRow, counted, next_id}
 pub use Rattle.store_core.specs.Finding.{IsNoSweep}
 pub use Rattle.store_core.specs.Frame.{IsOn, KeepsBytes}
 pub use Rattle.store_core.specs.Opening.{LeavesUnread}

@@ -256,6 +256,7 @@ module _ (t : Store) (given : List ℕ) (old new : CoreState) (roomy : IsRoomy t
     by_effect actor buf (asked.GcStart percent) answer other row effect stops = by_reads effect.disk.only
     by_effect actor buf asked.GcStep answer other row effect stops = absurd other
     by_effect actor buf asked.Stat answer other row effect stops = by_reads effect.disk.only
+    by_effect actor buf asked.Unique answer other row effect stops = by_reads effect.disk.only
 
     by_stop : (e : Event) (was : Option Stop) → IsNoGcStep e.step → StepsOr was e old new → KnownWith new.disk.content HasReserveIn
     by_stop e None other steps = by_effect e.actor e.buf e.step e.answer other steps.made.row steps.made.effect steps.stops

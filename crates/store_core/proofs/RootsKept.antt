@@ -1,5 +1,5 @@
 -- Steps that change the part of one actor alone, and bring no root.
-use Rattle.store_core.proofs.Prelude.{◌≡◌, ℕ, zero, suc, ◌<◌, List, [], ◌∷◌, length, Some, Result, Ok, Err, refl, sym, ◌∙◌, subst, arith, ACTORS, Part, Idle, Writing, Reader, Answer, Top, Named, NameMap, Refusal, IsRoot, AbortRow, BeginRow, EndRow, ListRow, OpenRow, ReadRow, StatRow, CoreState}
+use Rattle.store_core.proofs.Prelude.{◌≡◌, ℕ, zero, suc, ◌<◌, List, [], ◌∷◌, length, Some, Result, Ok, Err, refl, sym, ◌∙◌, subst, arith, ACTORS, Part, Idle, Writing, Reader, Answer, Top, Named, NameMap, Refusal, IsRoot, AbortRow, BeginRow, EndRow, ListRow, OpenRow, ReadRow, StatRow, UniqueRow, CoreState}
 use Rattle.std.specs.FinMap as finite
 use Rattle.actor_parts.specs.declared.step.Answer.TheVariants as answers
 use Rattle.actor_parts.specs.Parts.{part_of, with_part}
@@ -70,6 +70,11 @@ module _ (names : NameMap) (old new : CoreState) (actor : ℕ) (buf : List ℕ) 
   pub stat_none : (answer : Result Answer Refusal) → StatRow answer old new → BringsNone
   stat_none (Ok answer) row = none_same row.1
   stat_none (Err refusal) row = absurd row
+
+  pub unique_none : (answer : Result Answer Refusal) → UniqueRow answer old new → BringsNone
+  unique_none (Ok (answers.Unique segments bytes)) row = none_same row.parts_are
+  unique_none (Err refusal) row = none_same row.parts_are
+  unique_none answer row = absurd row
 
   pub list_none : (answer : Result Answer Refusal) → ListRow answer old new → BringsNone
   list_none (Ok (answers.Listed listed)) row = none_same row.1

@@ -68,6 +68,7 @@ module _ (old new : CoreState) where
     effect_runs (asked.GcStart percent) answer row effect = same_runs effect.disk.only.later effect.tables.tables_are
     effect_runs asked.GcStep answer row effect = gc_runs answer effect.later row
     effect_runs asked.Stat answer row effect = same_runs effect.disk.only.later effect.tables.tables_are
+    effect_runs asked.Unique answer row effect = same_runs effect.disk.only.later effect.tables.tables_are
 
 module _ (old new : CoreState) (stays : new.stop ≡ None) where
   pub seal_kept : (offered : List Contents) (refusal : Refusal) (count : ℕ) → StopsAfter (asked.Seal offered) (Err refusal) count new.stop → KeepsUnlessBroken refusal old new
@@ -179,6 +180,7 @@ module _ (old new : CoreState) where
   under_way_on (asked.GcStart percent) actor answer buf row effect collects runs = begun_on percent answer row effect.tables
   under_way_on asked.GcStep actor answer buf row effect collects runs = effect.under_way
   under_way_on asked.Stat actor answer buf row effect collects runs = kept_on effect.tables collects
+  under_way_on asked.Unique actor answer buf row effect collects runs = kept_on effect.tables collects
 
 -- ---- a step
 

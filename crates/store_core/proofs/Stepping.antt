@@ -1,5 +1,5 @@
 -- What each step does, whichever it is.
-use Rattle.store_core.proofs.Prelude.{◌≡◌, ℕ, List, Option, Some, None, Result, Ok, Err, sym, ◌∙◌, Root, KindSegment, IsLater, Part, Answer, StepValue, apart, Refusal, Row, BeginRow, ClaimRow, SealRow, CommitRow, AbortRow, OpenRow, ReadRow, EndRow, StatRow, DeleteRow, ListRow, Effect, StepsOr, Stop, CoreState, Event, GcRow, StartRow, ◌≢◌, length, ap}
+use Rattle.store_core.proofs.Prelude.{◌≡◌, ℕ, List, Option, Some, None, Result, Ok, Err, sym, ◌∙◌, Root, KindSegment, IsLater, Part, Answer, StepValue, apart, Refusal, Row, BeginRow, ClaimRow, SealRow, CommitRow, AbortRow, OpenRow, ReadRow, EndRow, StatRow, UniqueRow, DeleteRow, ListRow, Effect, StepsOr, Stop, CoreState, Event, GcRow, StartRow, ◌≢◌, length, ap}
 use Rattle.container_meta.specs.Segments.{Contents}
 use Rattle.actor_parts.specs.declared.step.Answer.TheVariants as answers
 use Rattle.actor_parts.specs.Parts.{part_of, with_part}
@@ -78,6 +78,11 @@ module _ (actor : ℕ) (buf : List ℕ) (old new : CoreState) where
   stat_one (Ok answer) row = same_one actor old.parts new.parts row.1
   stat_one (Err refusal) row = absurd row
 
+  unique_one : (answer : Result Answer Refusal) → UniqueRow answer old new → ChangesOne actor old.parts new.parts
+  unique_one (Ok (answers.Unique segments bytes)) row = same_one actor old.parts new.parts row.parts_are
+  unique_one (Err refusal) row = same_one actor old.parts new.parts row.parts_are
+  unique_one answer row = absurd row
+
   delete_one : (name : List ℕ) (answer : Result Answer Refusal) → DeleteRow name answer old new → ChangesOne actor old.parts new.parts
   delete_one name (Ok (answers.Deleted sequence)) row = same_one actor old.parts new.parts row.2
   delete_one name (Err refusal) row = same_one actor old.parts new.parts row.1
@@ -115,6 +120,7 @@ module _ (actor : ℕ) (buf : List ℕ) (old new : CoreState) where
   row_one (asked.GcStart percent) answer row = start_one percent answer row
   row_one asked.GcStep answer row = gc_one answer row
   row_one asked.Stat answer row = stat_one answer row
+  row_one asked.Unique answer row = unique_one answer row
 
 -- ---- the disk
 
@@ -134,6 +140,7 @@ module _ (old new : CoreState) where
   effect_later (asked.GcStart percent) answer effect = effect.disk.only.later
   effect_later asked.GcStep answer effect = effect.later
   effect_later asked.Stat answer effect = effect.disk.only.later
+  effect_later asked.Unique answer effect = effect.disk.only.later
 
 module _ (old new : CoreState) (e : Event) where
   pub step_later : (stop : Option Stop) → StepsOr stop e old new → IsLater old.disk new.disk

@@ -1,5 +1,5 @@
 -- What each step makes of the core of a store, what it answers, and why it is refused (docs/MODEL.md, 'The core').
-use Rattle.std.specs.Prelude.{◌≡◌, ◌≢◌, ℕ, suc, ◌+◌, ◌≤◌, List, [], ◌∷◌, length, take, Option, Some, None, Result, Ok, Err, IfErr, IfOk, OnOk, OnErr}
+use Rattle.std.specs.Prelude.{◌≡◌, ◌≢◌, ℕ, suc, ◌+◌, ◌≤◌, List, [], ◌∷◌, length, take, Option, Some, None, Result, Ok, Err, IfErr, IfOk, IsTrue, OnOk, OnErr}
 use Rattle.std.specs.FinMap as finite
 use Rattle.std.specs.List.{AllByRecursion}
 use Rattle.base_model.specs.Known.{Known, KnownWith}
@@ -36,7 +36,7 @@ use Rattle.namespace.specs.Listing.{listing_of}
 use Rattle.store_model.specs.Collisions.{ByteSet}
 use Rattle.store_model.specs.Slots.{HasKey, IsIndexOf}
 use Rattle.store_model.specs.Steps.{AnyKey, StoreChange, SealContainer, ChangeName, FlushContainer, FreeContainer, CanChange, KeepsCopies, changed}
-use Rattle.store_state.specs.Refused.{blames}
+use Rattle.store_state.specs.Refused.{blames, fails}
 use Rattle.store_state.specs.Settled as settled
 use Rattle.store_state.specs.declared.tables.Tables.{Tables}
 use Rattle.store_state.specs.Tables.{Represents, Runs, OfEach}
@@ -51,6 +51,8 @@ use Rattle.ingest_steps.specs.SealStep.{store_moment}
 use Rattle.ingest_steps.specs.Writers.{MayCommit, IsWrongPart, IsCommitRefusal}
 use Rattle.read_steps.specs.Counting.{counts_of}
 use Rattle.read_steps.specs.Readers as readers
+use Rattle.read_steps.specs.Trees.{AllHeld, IsTreesRefusal, WhereHeld}
+use Rattle.read_steps.specs.Unique.{CountsTrees}
 use Rattle.read_steps.specs.Walking.{IsIndexed, SegmentsAhead}
 use Rattle.store_core.specs.declared.stop.Stop.{Stop}
 use Rattle.store_core.specs.Collecting.{Collects, GcEffect, GcRow, StartRow}
@@ -196,6 +198,24 @@ abbrev pub StatRow : Result Answer Refusal → CoreState → CoreState → Type 
 StatRow (Ok answer) old new = IsCount answer old × (new.parts ≡ old.parts)
 StatRow (Err refusal) old new = ⊥
 
+-- The keys of the trees of all names were counted, each once, with the lengths that the index has; nothing is said of an index whose map
+-- isn't known.
+pub record IsCounted (segments bytes : ℕ) (old new : CoreState) : Type 0 where
+  pub counts : KnownMap old.known (λ index. CountsTrees index old.disk new.disk (listing_of old.tables.names) segments bytes)
+  pub parts_are : new.parts ≡ old.parts
+
+-- The walk of the trees can't go on; where they are held a read failed, or there was no memory.
+pub record IsUncounted (refusal : Refusal) (old new : CoreState) : Type 0 where
+  pub cause : KnownMap old.known (λ index. IsTreesRefusal index old.disk new.disk (listing_of old.tables.names) refusal)
+  pub held : KnownMap old.known (λ index. WhereHeld index old.disk.content
+      (λ counts held image. AllHeld counts held image (listing_of old.tables.names)) (λ _ _ _. IsTrue (fails refusal)))
+  pub parts_are : new.parts ≡ old.parts
+
+abbrev pub UniqueRow : Result Answer Refusal → CoreState → CoreState → Type 0
+UniqueRow (Ok (answers.Unique segments bytes)) old new = IsCounted segments bytes old new
+UniqueRow (Err refusal) old new = IsUncounted refusal old new
+UniqueRow answer old new = ⊥
+
 -- ---- names
 
 -- The name is gone.
@@ -226,6 +246,7 @@ Row asked.ListNames actor answer buf old new = ListRow answer old new
 Row (asked.GcStart percent) actor answer buf old new = StartRow percent answer old new
 Row asked.GcStep actor answer buf old new = GcRow answer old new
 Row asked.Stat actor answer buf old new = StatRow answer old new
+Row asked.Unique actor answer buf old new = UniqueRow answer old new
 
 -- ---- what becomes of tables, index and disk
 

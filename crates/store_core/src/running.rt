@@ -20,7 +20,7 @@ use dd_disk::Disk;
 use gc_steps::{Collection, StepDone, phase_of, start, step};
 use ingest_steps::{Claimed, abort, begin, claim, commit, delete, room_for, seal_together};
 use namespace::Root;
-use read_steps::{end_read, list, open_read, read_next, stat};
+use read_steps::{end_read, list, open_read, read_next, stat, unique};
 use refusals::{PartKind, Refusal};
 use segment_index::{Index, StoreIndex};
 use std::alloc::Global;
@@ -415,6 +415,23 @@ impl<D: Disk, M: Summary> Core<D, M> {
         stat(&self.tables)
     }
 
+    fn unique(&mut self, actor: Actor, buf: &mut SegBuf) -> Result<Answer, Refusal>
+        requires up { IsUp (⟦<Core<D, M> as HasState>⟧.state self.old) }
+        ensures made { MadeBefore asked.Unique actor result buf.new (⟦<Core<D, M> as HasState>⟧.state self.old)
+            (⟦<Core<D, M> as HasState>⟧.state self.new) }
+        ensures stop { self.new.stop ≡ self.old.stop }
+        ensures count { self.new.acknowledged ≡ self.old.acknowledged }
+        ensures collection { self.new.collection ≡ self.old.collection }
+    {
+        unique(
+            self.alloc,
+            &mut self.disk,
+            &mut self.index,
+            &self.tables.names,
+            buf.bytes_mut(),
+        )
+    }
+
     // Makes a step of a core that isn't stopped.
     fn make(&mut self, actor: Actor, step: Step<'_>, buf: &mut SegBuf) -> Result<Answer, Refusal>
         requires asked { IsStep (step_value step) }
@@ -440,6 +457,7 @@ impl<D: Disk, M: Summary> Core<D, M> {
             Step::GcStart { percent } => self.gc_start(actor, *percent),
             Step::GcStep => self.gc_step(actor, buf),
             Step::Stat => Ok(self.stat()),
+            Step::Unique => self.unique(actor, buf),
         }
     }
 

@@ -40,3 +40,6 @@ returns-in-GcStep-clause-made g c = λ stop count. made_of _ _ (ap step_value c.
 
 pub returns-in-Stat-clause-made : goal.returns-in-Stat-clause-made
 returns-in-Stat-clause-made g c = λ stop count. made_stat _ (ap step_value c.in-Stat.is) _ _ _ _ stop count c.stat.ensures
+
+pub returns-in-Unique-clause-made : goal.returns-in-Unique-clause-made
+returns-in-Unique-clause-made g c = λ stop count. made_of _ _ (ap step_value c.in-Unique.is) _ _ _ _ _ (c.unique.ensures.made stop count)

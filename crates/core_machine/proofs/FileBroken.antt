@@ -256,6 +256,7 @@ module _ (bytes : List ℕ) (m n : FileMachine) (runs : m.state ≡ Running) (ac
       by_state (steps.GcStart percent) legal = legal
       by_state steps.GcStep legal = legal
       by_state steps.Stat legal = legal
+      by_state steps.Unique legal = legal
 
   -- none but those that write are
   it_writes : (step : StepValue) → Refuses of_files actor (asked_as (λ root. bytes) step) refusals.DiskWrite m n → Writes step

@@ -1,5 +1,5 @@
 -- A core that was at the files of a machine is at those of the machine that a step made of it, where the step is none of a collection.
-use Rattle.core_machine.proofs.Prelude.{◌≡◌, ℕ, suc, ◌+◌, ◌-◌, arith, List, [], ◌∷◌, take, None, Some, Result, Ok, Err, refl, sym, ◌∙◌, ap, subst, Root, Answer, StepValue, Refusal, ByteSet, IsIn, Stored, Store, ChangesTo, FileEvent, IsAt, IsNoGcStep, changes_by, stored_by, stored_with, CoreState, NextOn, Asked, FileMachine, Answers, ByState, LegalBy, Refuses, RefusesClaim, RefusesCommit, RefusesDelete, RefusesOn, RefusesSeal, RunState, Running, keeping, RootMachine, of_files, IsOfFile, stored_in, answered_by, asked_as, segment_key}
+use Rattle.core_machine.proofs.Prelude.{◌≡◌, ℕ, suc, ◌+◌, ◌-◌, arith, List, [], ◌∷◌, take, None, Some, Result, Ok, Err, refl, sym, ◌∙◌, ap, subst, Root, Answer, StepValue, Refusal, ByteSet, IsIn, Stored, Store, ChangesTo, FileEvent, IsAt, IsNoGcStep, changes_by, stored_by, stored_with, CoreState, NextOn, Asked, FileMachine, Answers, ByState, LegalBy, Refuses, RefusesClaim, RefusesCommit, RefusesDelete, RefusesOn, RefusesSeal, RefusesUnique, RunState, Running, keeping, RootMachine, of_files, IsOfFile, stored_in, answered_by, asked_as, segment_key}
 use Rattle.actor_parts.specs.declared.step.Answer.TheVariants as answers
 use Rattle.actor_parts.specs.StepValue as steps
 use Rattle.refusals.specs.declared.refusal.Refusal.TheVariants as refusals
@@ -75,6 +75,14 @@ delete_stays m n name refusals.Numbers is = same m n is.3
 delete_stays m n name refusals.DiskWrite is = stays_of m n _ is.3 refl refl refl
 delete_stays m n name refusal is = absurd is
 
+unique_stays : (m n : FileMachine) (refusal : Refusal) → RefusesUnique of_files refusal m n → Stays m n
+unique_stays m n refusals.Memory is = same m n is
+unique_stays m n refusals.DiskRead is = same m n is
+unique_stays m n (refusals.Corrupt slot offset count want got) is = same m n is.1
+unique_stays m n (refusals.Missing key) is = same m n is.1
+unique_stays m n (refusals.Damaged at why) is = same m n is.1
+unique_stays m n refusal is = absurd is
+
 abbrev ask : List ℕ → StepValue → Asked (List ℕ)
 ask bytes step = asked_as (λ root. bytes) step
 
@@ -100,6 +108,7 @@ on_stays m n a bytes steps.Begin refusal other is = absurd is
 on_stays m n a bytes steps.Abort refusal other is = absurd is
 on_stays m n a bytes steps.EndRead refusal other is = absurd is
 on_stays m n a bytes steps.Stat refusal other is = absurd is
+on_stays m n a bytes steps.Unique refusal other is = unique_stays m n refusal is
 
 refused_stays : (m n : FileMachine) (a : ℕ) (bytes : List ℕ) (step : StepValue) (refusal : Refusal) → IsNoGcStep step → Refuses of_files a (ask bytes step) refusal m n
     → Stays m n
@@ -181,6 +190,9 @@ module _ (m n : FileMachine) (a : ℕ) (bytes buf : List ℕ) (t : Store) where
   does steps.Stat (answers.Stat files segments bytes used free) other of is chain =
       stayed steps.Stat (Ok (answers.Stat files segments bytes used free)) refl refl (same m n is.1) chain
   does steps.Stat answer other of is chain = absurd is
+  does steps.Unique (answers.Unique segments bytes) other of is chain =
+      stayed steps.Unique (Ok (answers.Unique segments bytes)) refl refl (same m n is.1) chain
+  does steps.Unique answer other of is chain = absurd is
 
   none_by : (step : StepValue) (refusal : Refusal) → changes_by step (Err refusal) ≡ []
   none_by (steps.Seal offered) refusal = refl
@@ -219,6 +231,7 @@ module _ (m n : FileMachine) (a : ℕ) (bytes buf : List ℕ) (t : Store) where
   by_step (steps.GcStart percent) told by = by
   by_step steps.GcStep told by = by
   by_step steps.Stat told by = by
+  by_step steps.Unique told by = by
 
   -- a machine that runs answers so
   pub answers_by : m.state ≡ Running → (step : StepValue) (told : Result Done Refusal) → LegalBy of_files (ask bytes step) a told m n

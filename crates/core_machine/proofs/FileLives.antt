@@ -86,6 +86,7 @@ module _ (m n : FileMachine) (a : ℕ) (bytes buf : List ℕ) (ran : MachineColl
   went steps.ListNames (Ok (answers.Listed files)) plain is = same_went steps.ListNames (Ok (answers.Listed files)) (λ key none. none) (runs_as is.1)
   went steps.Stat (Ok (answers.Stat files segments count used free)) plain is =
       same_went steps.Stat (Ok (answers.Stat files segments count used free)) (λ key none. none) (runs_as is.1)
+  went steps.Unique (Ok (answers.Unique segments count)) plain is = same_went steps.Unique (Ok (answers.Unique segments count)) (λ key none. none) (runs_as is.1)
   went (steps.GcStart percent) answer plain is = absurd plain
   went steps.GcStep answer plain is = absurd plain
   went step (Err refusal) plain is = same_went step (Err refusal) (none_kept step refusal) (refused_keeps of_files a (ask bytes step) refusal m n is).collection

@@ -25,6 +25,7 @@ use Rattle.core_machine.proofs.FileLives.{lives_then}
 use Rattle.core_machine.proofs.FileReads.{reads_add}
 use Rattle.core_machine.proofs.FileReadsOn.{reads_on}
 use Rattle.core_machine.proofs.FileStays.{stands_read}
+use Rattle.core_machine.proofs.FileUnique.{unique_adds}
 use Rattle.core_machine.proofs.FileSteps.{StepsAt, StepsTo}
 use Rattle.core_machine.proofs.FileSwept.{swept_at}
 use Rattle.core_machine.proofs.FileWrote.{wrote_on}
@@ -47,6 +48,7 @@ same_asked steps.ListNames bytes of = refl
 same_asked (steps.GcStart percent) bytes of = refl
 same_asked steps.GcStep bytes of = refl
 same_asked steps.Stat bytes of = refl
+same_asked steps.Unique bytes of = refl
 
 -- the index is followed through each step, where the content is told
 follows_phase : (phase : Phase) (content : Option (List ℕ)) → KnownWith content (λ _. Unit {0}) → FollowsPhase phase content
@@ -102,6 +104,7 @@ stopped_added steps.ListNames bytes a at m r t = tt
 stopped_added (steps.GcStart percent) bytes a at m r t = tt
 stopped_added steps.GcStep bytes a at m r t = tt
 stopped_added steps.Stat bytes a at m r t = tt
+stopped_added steps.Unique bytes a at m r t = tt
 
 -- ---- one that runs
 
@@ -147,6 +150,7 @@ module _ {C : Type 0} {state : C → CoreState} {among : ByteSet} {f : FileEvent
   adds_by (steps.GcStart percent) is asked given of row harmless =
       subst AddsAs is (gc_adds C state among f old new m r t s s.at.wrote (inr (percent, is)))
   adds_by steps.GcStep is asked given of row harmless = subst AddsAs is (gc_adds C state among f old new m r t s s.at.wrote (inl is))
+  adds_by steps.Unique is asked given of row harmless = unique_adds (IsIn among) m t (state old) (state new) s.at.is_at f.event.actor f.event.buf f.event.answer row harmless
   adds_by step is asked given of row harmless = none_added step f.bytes f.event.actor (answered_by f.event.answer f.event.buf) m r t tt
 
   pub adds : Adds (file_step f) m r t

@@ -21,3 +21,4 @@ plain_no_gc asked.EndRead plain = tt
 plain_no_gc (asked.Delete name) plain = tt
 plain_no_gc asked.ListNames plain = tt
 plain_no_gc asked.Stat plain = tt
+plain_no_gc asked.Unique plain = tt

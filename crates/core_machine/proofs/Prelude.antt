@@ -111,7 +111,7 @@ pub use Rattle.store_core.proofs.RunningOn.{step_runs}
 pub use Rattle.store_core.proofs.AtStore.{led_to, same_some}
 pub use Rattle.store_core.proofs.Stepping.{step_later}
 pub use Rattle.store_core.specs.Collecting.{Collects, GcEffect, GcRow, GoesOn as CoreGoesOn, IsKeptKey, IsNotMade, MarksIn, StartRow, TouchesBy, at_moment}
-pub use Rattle.store_core.specs.Core.{AbortRow, AnswersStopped, BeginRow, ChangesTo, ClaimRow, CommitRow, DeleteRow, Effect, EndRow, ListRow, NamesOne, OpenRow, ReadRow, Rests, Row, SealRow, SealsSome, StatRow, Steps, StepsOr, StopsAfter, counted, next_id}
+pub use Rattle.store_core.specs.Core.{AbortRow, AnswersStopped, BeginRow, ChangesTo, ClaimRow, CommitRow, DeleteRow, Effect, EndRow, ListRow, NamesOne, OpenRow, ReadRow, Rests, Row, SealRow, SealsSome, StatRow, Steps, StepsOr, StopsAfter, UniqueRow, counted, next_id}
 pub use Rattle.store_core.specs.Opening.{IsReadFrom, OpensCore, OpensNone, WritesUnread}
 pub use Rattle.store_core.specs.Runs.{FileEvent, FileStep, IsAt, IsGivenRight, IsNoGcStep, IsSafeIn, changes_by, stored_by, stored_with}
 pub use Rattle.store_core.specs.State.{CoreState, Event, IsRunning, IsUnderWayIn, IsUp, UnlessStopped}
@@ -123,7 +123,7 @@ pub use Rattle.store_machine.specs.Asked.{Asked}
 pub use Rattle.store_machine.specs.ByMap.{FileMachine}
 pub use Rattle.store_machine.specs.Collecting.{DoesNotFit, Gathered, GoesOver, IsCollecting, IsCopyOf, IsRecordOf, Makes, MayBreak, Went, freed_in, ids_before, keys_written, marking, marks_of, next_by, next_of, phase_by, phase_in, sources_in, swept_by}
 pub use Rattle.store_machine.specs.Forgetting.{SameNow, SameState, asked_of, forget_collection, forget_step}
-pub use Rattle.store_machine.specs.Legal.{Answers, ByState, IsAtRightPart, Legal, LegalBy, Refuses, RefusesClaim, RefusesCommit, RefusesDelete, RefusesGcStep, RefusesOn, RefusesSeal, broken_by, with_name, without_name}
+pub use Rattle.store_machine.specs.Legal.{Answers, ByState, IsAtRightPart, Legal, LegalBy, Refuses, RefusesClaim, RefusesCommit, RefusesDelete, RefusesGcStep, RefusesOn, RefusesSeal, RefusesUnique, broken_by, with_name, without_name}
 pub use Rattle.store_machine.specs.Machine.{Collection as MachineCollection, Found, Machine, Marking, Reading, Recording, RunState, Running, Stopped, Sweeping, all_idle, keeping, part_in, put_at, stopped}
 pub use Rattle.store_machine.specs.Needs.{CollectionNeeds, HasCopy, IsLacked, NamesNeed, NeededSince, OneNeeds, forgotten_beside, keys_kept, values_read}
 pub use Rattle.store_machine.specs.Opening.{IsGivenBack, IsNamedBy, MayBeFound, MayRefuseOpening, freeing}

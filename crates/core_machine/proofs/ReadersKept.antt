@@ -80,6 +80,8 @@ module _ (old new : CoreState) (a : ℕ) (buf : List ℕ) (x : ℕ) (reader : Re
   core_kept steps.GcStep (Err refusals.NotCollecting) other row = same row.1
   core_kept steps.GcStep (Err refusal) other row = same row.1
   core_kept steps.Stat (Ok answer) other row = same row.1
+  core_kept steps.Unique (Ok (answers.Unique segments bytes)) other row = same row.parts_are
+  core_kept steps.Unique (Err refusal) other row = same row.parts_are
   core_kept step answer other row = absurd row
 
 -- ---- in a machine of files
@@ -122,6 +124,7 @@ module _ (m n : FileMachine) (a : ℕ) (bytes buf : List ℕ) (x : ℕ) (file : 
   no_read (steps.GcStart percent) other = tt
   no_read steps.GcStep other = tt
   no_read steps.Stat other = tt
+  no_read steps.Unique other = tt
 
   refused : (step : StepValue) (refusal : Refusal) → IsElse step → Answers of_files a (ask step) (Err refusal) m n → IsRead
   refused step refusal other is = elim (refused_left of_files m n a (ask step) refusal (no_read step other) is) [
@@ -146,4 +149,5 @@ module _ (m n : FileMachine) (a : ℕ) (bytes buf : List ℕ) (x : ℕ) (file : 
   file_kept steps.GcStep (Ok (answers.Did phase)) other is = stays (parts_as is.others)
   file_kept steps.GcStep (Ok (answers.Done freed copied)) other is = stays (parts_as is.others)
   file_kept steps.Stat (Ok (answers.Stat files segments count used free)) other is = stays (parts_as is.1)
+  file_kept steps.Unique (Ok (answers.Unique segments count)) other is = stays (parts_as is.1)
   file_kept step answer other is = absurd is

@@ -1,6 +1,7 @@
 -- A step of a core is one of the machine of roots.
-use Rattle.core_machine.proofs.Prelude.{PlaceMap, KindSegment, ◌≡◌, ℕ, List, [], ◌∷◌, Option, Some, None, Result, Ok, Err, refl, sym, ◌∙◌, ap, subst, Bool, true, Root, Top, Answer, StepValue, Refusal, Stop, ClaimRow, ListRow, StatRow, AbortRow, AnswersStopped, BeginRow, EndRow, OpenRow, ReadRow, Steps, StepsOr, StopsAfter, counted, CoreState, Event, IsUnderWayIn, IsUp, UnlessStopped, Asked, Answers, ByState, LegalBy, RunState, Running, Stopped, of_roots, Tables, Collects, IsKeptKey, StartRow, SameCollection, NamesStep, Follows, HasIndex, IsMachine, SameStop, asked_by, answered_by, IsValidFor, Represents}
+use Rattle.core_machine.proofs.Prelude.{PlaceMap, KindSegment, ◌≡◌, ℕ, List, [], ◌∷◌, Option, Some, None, Result, Ok, Err, refl, sym, ◌∙◌, ap, subst, Bool, true, Root, Top, Answer, StepValue, Refusal, Stop, ClaimRow, ListRow, StatRow, AbortRow, AnswersStopped, BeginRow, EndRow, OpenRow, ReadRow, Steps, StepsOr, StopsAfter, UniqueRow, counted, CoreState, Event, IsUnderWayIn, IsUp, UnlessStopped, Asked, Answers, ByState, LegalBy, RunState, Running, Stopped, of_roots, Tables, Collects, IsKeptKey, StartRow, SameCollection, NamesStep, Follows, HasIndex, IsMachine, SameStop, asked_by, answered_by, IsValidFor, Represents}
 use Rattle.read_steps.specs.Counting.{counts_of}
+use Rattle.namespace.specs.Listing.{listing_of}
 use Rattle.actor_parts.specs.declared.step.Answer.TheVariants as answers
 use Rattle.actor_parts.specs.StepValue as steps
 use Rattle.refusals.specs.declared.refusal.Refusal.TheVariants as refusals
@@ -12,7 +13,7 @@ use Rattle.core_machine.specs.Refines.{CoreRefines, SameParts}
 use Rattle.core_machine.proofs.Collected.{gc_row}
 use Rattle.core_machine.proofs.Sealed.{seal_row}
 use Rattle.core_machine.proofs.Started.{start_row}
-use Rattle.core_machine.proofs.Rows.{M, abort_row, begin_row, claim_row, commit_row, list_row, stat_row, delete_row, end_row, left_by, open_row, read_row, same_at, same_marks, stays_so}
+use Rattle.core_machine.proofs.Rows.{M, abort_row, begin_row, claim_row, commit_row, list_row, stat_row, delete_row, end_row, left_by, open_row, read_row, same_at, same_marks, stays_so, stops_trees, unique_row}
 
 no_write : (after : List Top) → IsStuck after refusals.DiskWrite → ⊥
 no_write [] stuck = stuck
@@ -86,6 +87,13 @@ module _ (c d : CoreState) where
       (subst (λ (x : Answer). StopsAfter steps.Stat (Ok x) c.acknowledged d.stop) is stop, subst (λ (x : Answer). d.acknowledged ≡ counted (Ok x) c.acknowledged) is count)
   stat_quiet at (Err refusal) row stop count = absurd row
 
+  unique_quiet : ((places : PlaceMap) × (c.known ≡ Some places)) → (answer : Result Answer Refusal) → UniqueRow answer c d → Quiet steps.Unique answer
+  unique_quiet told (Ok (answers.Unique segments bytes)) row stop count = (stop, count)
+  unique_quiet told (Ok answer) row stop count = absurd row
+  unique_quiet (places, told) (Err refusals.DiskWrite) row stop count =
+      absurd (stops_trees places c.disk d.disk (listing_of c.tables.names) refusals.DiskWrite (row.cause places told))
+  unique_quiet told (Err refusal) row stop count = (stop, count)
+
 -- ---- a core that runs
 
 module _ {followed : Bool} (c d : CoreState) (m : M) (at : IsMachine followed m c) (runs : m.state ≡ Running) (under : IsUnderWayIn c.tables.held c.collection)
@@ -144,6 +152,10 @@ module _ {followed : Bool} (c d : CoreState) (m : M) (at : IsMachine followed m 
       let quiet = stat_quiet c d at answer made.row stop count in
       unnamed answer asked.Stat (stat_row c m at runs d a answer buf made.row
       (left_by c m at runs d made.effect.tables made.effect.disk.only.later.size_is quiet.1 (same_at c m at runs d collects) quiet.0))
+  made_by steps.Unique answer made collects stop count follows =
+      let quiet = unique_quiet c d (own.places, own.known_is) answer made.row stop count in
+      unnamed answer asked.Unique (unique_row c m at runs d a answer buf made.row
+      (left_by c m at runs d made.effect.tables made.effect.disk.only.later.size_is quiet.1 (same_at c m at runs d collects) quiet.0))
   made_by (steps.GcStart percent) answer made collects stop count follows =
       let quiet = start_quiet c d percent answer made.row stop count in
       unnamed answer (asked.GcStart percent) (start_row c m at runs d percent a answer buf made.row made.effect under quiet.0 quiet.1)
@@ -167,6 +179,7 @@ by_state steps.ListNames a told m n by = by
 by_state (steps.GcStart percent) a told m n by = by
 by_state steps.GcStep a told m n by = by
 by_state steps.Stat a told m n by = by
+by_state steps.Unique a told m n by = by
 
 module _ {followed : Bool} (e : Event) (old new : CoreState) (m : M) (at : IsMachine followed m old) (follows : followed ≡ true → Follows e.answer old) where
   abbrev step : Asked Root

@@ -1,5 +1,5 @@
 -- A step that is refused leaves the machine as it is, or stops it; but for a read, before which nodes may be opened.
-use Rattle.core_machine.proofs.Prelude.{◌≡◌, ◌⊎◌, inl, inr, ℕ, true, List, Option, Some, None, ap, subst, KindSegment, Root, Refusal, Store, CoreState, Asked, Refuses, RefusesClaim, RefusesCommit, RefusesDelete, RefusesGcStep, RefusesOn, RefusesSeal, FileMachine, SameState, Found, Machine, RunState, Running, Stopped, stopped, RootMachine, IsMachine, SameStop}
+use Rattle.core_machine.proofs.Prelude.{◌≡◌, ◌⊎◌, inl, inr, ℕ, true, List, Option, Some, None, ap, subst, KindSegment, Root, Refusal, Store, CoreState, Asked, Refuses, RefusesClaim, RefusesCommit, RefusesDelete, RefusesGcStep, RefusesOn, RefusesSeal, RefusesUnique, FileMachine, SameState, Found, Machine, RunState, Running, Stopped, stopped, RootMachine, IsMachine, SameStop}
 use Rattle.container_meta.specs.Segments.{Contents}
 use Rattle.refusals.specs.declared.refusal.Refusal.TheVariants as refusals
 use Rattle.store_machine.specs.Asked as asked
@@ -62,6 +62,14 @@ module _ {V R : Type 0} where
     gc_left (refusals.Damaged at why) is = inl is.1.1
     gc_left refusal is = absurd is
 
+    unique_left : (refusal : Refusal) → RefusesUnique v refusal m n → IsLeft m n
+    unique_left refusals.Memory is = inl is
+    unique_left refusals.DiskRead is = inl is
+    unique_left (refusals.Corrupt slot offset count want got) is = inl is.1
+    unique_left (refusals.Missing key) is = inl is.1
+    unique_left (refusals.Damaged at why) is = inl is.1
+    unique_left refusal is = absurd is
+
     on_left : (a : ℕ) (step : Asked V) (refusal : Refusal) → IsNoRead step → RefusesOn v a step refusal m n → IsLeft m n
     on_left a (asked.Claim seg) refusal other is = claim_left a seg refusal is
     on_left a (asked.Seal offered) refusal other is = seal_left a offered refusal is
@@ -76,6 +84,7 @@ module _ {V R : Type 0} where
     on_left a (asked.GcStart percent) (refusals.Damaged at why) other is = inl is.1.1
     on_left a (asked.GcStart percent) (refusals.Collecting phase) other is = inl is.1
     on_left a asked.GcStep refusal other is = gc_left refusal is
+    on_left a asked.Unique refusal other is = unique_left refusal is
     on_left a asked.ReadNext refusal other is = absurd other
     on_left a step refusal other is = absurd is
 

@@ -1,5 +1,5 @@
 -- Rows of the core, as rows of the machine of roots.
-use Rattle.core_machine.proofs.Prelude.{PinMap, pin_of, KindSegment, segment_key, len_changed, order, length, arith, ◌≡◌, ◌≢◌, inl, inr, Bool, true, false, cond, ◌≤◌, ◌<◌, ◌-◌, ◌++◌, ℕ, zero, suc, List, [], ◌∷◌, take, drop, slice_set, Option, Some, None, option_map, Result, Ok, Err, refl, sym, ◌∙◌, ap, subst, Root, Gone, Put, DiskView, PlaceMap, Top, contents_in, Named, NameMap, Refusal, newest, Store, last_sequence, IsValidFor, names_of, Represents, SlotTable, Tables, CoreCollection, MarksIn, HeaderValue, SameCollection, AbortRow, BeginRow, ClaimRow, CommitRow, ListRow, StatRow, DeleteRow, EndRow, NamesOne, OpenRow, ReadRow, StopsAfter, counted, eq_by_cmp, nat_list_cmp_total, half_cells, with_change, CoreState, Answer, Asked, Answers, with_name, IsAtRightPart, IsLacked, broken_by, without_name, Found, Machine, Reading, RunState, Running, Stopped, keeping, part_in, put_at, of_roots, HasIndex, IsMachine, SameStop, answered_by}
+use Rattle.core_machine.proofs.Prelude.{PinMap, pin_of, KindSegment, segment_key, len_changed, order, length, arith, ◌≡◌, ◌≢◌, inl, inr, Bool, true, false, cond, ◌≤◌, ◌<◌, ◌-◌, ◌++◌, ℕ, zero, suc, List, [], ◌∷◌, take, drop, slice_set, Option, Some, None, option_map, Result, Ok, Err, refl, sym, ◌∙◌, ap, subst, Root, Gone, Put, DiskView, PlaceMap, Top, contents_in, Named, NameMap, Refusal, newest, Store, last_sequence, IsValidFor, names_of, Represents, SlotTable, Tables, CoreCollection, MarksIn, HeaderValue, SameCollection, AbortRow, BeginRow, ClaimRow, CommitRow, ListRow, StatRow, DeleteRow, EndRow, NamesOne, OpenRow, ReadRow, StopsAfter, UniqueRow, counted, eq_by_cmp, nat_list_cmp_total, half_cells, with_change, CoreState, Answer, Asked, Answers, with_name, IsAtRightPart, IsLacked, broken_by, without_name, Found, Machine, Reading, RunState, Running, Stopped, keeping, part_in, put_at, of_roots, HasIndex, IsMachine, SameStop, answered_by}
 use Rattle.actor_parts.specs.Segments.{first_unpinned}
 use Rattle.disk_format.specs.declared.numbers.TheConstants.{MOST_NAMES}
 use Rattle.ingest_steps.specs.Claiming as claiming
@@ -31,6 +31,8 @@ use Rattle.store_model.proofs.NameChanges.{last_changed, names_after_change}
 use Rattle.std.specs.Ordering.{nat_cmp}
 use Rattle.std.specs.Cmp.Lexicographic.{slice_cmp}
 use Rattle.read_steps.specs.Readers as readers
+use Rattle.read_steps.specs.Trees.{IsTreesRefusal}
+use Rattle.read_steps.specs.Visiting.{IsVisitRefusal}
 use Rattle.read_steps.specs.Walking as walking
 use Rattle.actor_parts.specs.declared.step.Answer.TheVariants as answers
 use Rattle.store_machine.specs.Asked as asked
@@ -74,6 +76,30 @@ pub stays_so : (known : Option PlaceMap) (breaks : ℕ → Why → List ℕ → 
     → walking.IsWalkRefusal known breaks old new before after refusal
     → Walked before after × IsStuck after refusal
 stays_so known breaks old new before after refusal r = (walked_so (walking.WasRead known old new) before after r.walked, stuck_by known breaks old new after refusal r.cause)
+
+-- ---- why trees are not walked
+
+abbrev pub StopsTrees : Refusal → Type 0
+StopsTrees refusals.Memory = Unit {0}
+StopsTrees refusals.DiskRead = Unit {0}
+StopsTrees (refusals.Corrupt slot offset count want got) = Unit {0}
+StopsTrees (refusals.Missing key) = Unit {0}
+StopsTrees (refusals.Damaged at why) = Unit {0}
+StopsTrees refusal = ⊥
+
+stops_visit : (known : Option PlaceMap) (breaks : ℕ → Why → List ℕ → Type 0) (old new : DiskView) (ahead : List Top) (refusal : Refusal)
+    → IsVisitRefusal known breaks old new ahead refusal → StopsTrees refusal
+stops_visit known breaks old new [] refusal cause = absurd cause
+stops_visit known breaks old new (t ∷ ts) refusals.DiskRead cause = tt
+stops_visit known breaks old new (t ∷ ts) (refusals.Corrupt slot offset count want got) cause = tt
+stops_visit known breaks old new (t ∷ ts) (refusals.Missing key) cause = tt
+stops_visit known breaks old new (t ∷ ts) (refusals.Damaged at why) cause = tt
+stops_visit known breaks old new (t ∷ ts) refusal (inl segment) = absurd segment.1
+stops_visit known breaks old new (t ∷ ts) refusal (inr node) = absurd node.1
+
+pub stops_trees : (index : PlaceMap) (old new : DiskView) (roots : List NamedRoot) (refusal : Refusal) → IsTreesRefusal index old new roots refusal → StopsTrees refusal
+stops_trees index old new roots refusal (inl memory) = subst StopsTrees (sym memory) tt
+stops_trees index old new roots refusal (inr among) = stops_visit (Some index) (λ at why image. ⊥) old new among.stuck.ahead refusal among.stuck.cause
 
 -- ---- parts
 
@@ -492,6 +518,22 @@ module _ {followed : Bool} (c : CoreState) (m : M) (at : IsMachine followed m c)
         subst (λ (x : Answer). Left a asked.Stat (answered_by (Ok x) buf)) (sym (is.store_has m.store at.represents at.valid at.free))
         (m, (ap (λ (k : ℕ). counted_of k m.store) (sym names_many), refl), as_it_was r same)
     stat_row a (Err refusal) buf row r = absurd row
+
+    -- nothing is said of roots
+    no_part : (a : ℕ) → IsAtRightPart of_roots a asked.Unique m
+    no_part a taken is = absurd (let wrong : None ≡ Some taken = is in cc)
+
+    pub unique_row : (a : ℕ) (answer : Result Answer Refusal) (buf : List ℕ) → UniqueRow answer c d → Rested → Left a asked.Unique (answered_by answer buf)
+    unique_row a (Ok (answers.Unique segments bytes)) buf row r = (m, (tt, refl), as_it_was r row.parts_are)
+    unique_row a (Ok answer) buf row r = absurd row
+    unique_row a (Err refusals.Memory) buf row r = (m, refl, as_it_was r row.parts_are)
+    unique_row a (Err refusals.DiskRead) buf row r = (m, (no_part a, refl), as_it_was r row.parts_are)
+    unique_row a (Err (refusals.Corrupt slot offset count want got)) buf row r = (m, (no_part a, ((λ known. known), refl)), as_it_was r row.parts_are)
+    unique_row a (Err (refusals.Missing key)) buf row r = (m, (no_part a, ((λ known. known), refl)), as_it_was r row.parts_are)
+    unique_row a (Err (refusals.Damaged byte why)) buf row r = (m, (no_part a, ((λ known. known), refl)), as_it_was r row.parts_are)
+    unique_row a (Err refusal) buf row r =
+        let own : HasIndex followed m.swept m.forgotten m.store.held c.known = at.index runs in
+        absurd (stops_trees own.places c.disk d.disk (listing_of c.tables.names) refusal (row.cause own.places own.known_is))
 
     -- ---- a claim
 

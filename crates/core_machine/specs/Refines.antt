@@ -97,6 +97,7 @@ asked_as value steps.ListNames = asked.ListNames
 asked_as value (steps.GcStart percent) = asked.GcStart percent
 asked_as value steps.GcStep = asked.GcStep
 asked_as value steps.Stat = asked.Stat
+asked_as value steps.Unique = asked.Unique
 
 abbrev pub asked_by : StepValue → Asked Root
 asked_by step = asked_as (λ root. root) step
@@ -118,6 +119,7 @@ answered_by (Ok (answers.Started snapshot)) buf = Ok (done.Started snapshot)
 answered_by (Ok (answers.Did phase)) buf = Ok (done.Did phase)
 answered_by (Ok (answers.Done freed copied)) buf = Ok (done.Collected freed copied)
 answered_by (Ok (answers.Stat files segments bytes used free)) buf = Ok (done.Counted files segments bytes used free)
+answered_by (Ok (answers.Unique segments bytes)) buf = Ok (done.Unique segments bytes)
 answered_by (Err refusal) buf = Err refusal
 
 -- It is followed through each step; but where a collection writes what it copied, or gives a container back, only if the disk tells its

@@ -1,5 +1,5 @@
 -- What steps that are none of a collection leave of one, and of the containers.
-use Rattle.store_machine.proofs.Prelude.{◌≡◌, ◌≢◌, ◌⊎◌, ◌↔◌, ◌+◌, arith, inl, inr, ℕ, [], ◌∷◌, ◌++◌, Option, Some, None, Result, Ok, Err, refl, sym, ◌∙◌, ap, subst, pin_of, KindSegment, segment_key, HeaderValue, Put, Gone, Refusal, Store, with_change, Asked, IsSealOf, Done, Answers, ByState, Claims, Does, Legal, LegalBy, Refuses, Seals, with_name, without_name, RefusesClaim, RefusesCommit, RefusesDelete, RefusesGcStep, RefusesOn, RefusesRead, RefusesSeal, Collection, Machine, Idle, Writing, Reading, RunState, Running, Stopped, Stepped, keeping, one_more, put_at, Values}
+use Rattle.store_machine.proofs.Prelude.{◌≡◌, ◌≢◌, ◌⊎◌, ◌↔◌, ◌+◌, arith, inl, inr, ℕ, [], ◌∷◌, ◌++◌, Option, Some, None, Result, Ok, Err, refl, sym, ◌∙◌, ap, subst, pin_of, KindSegment, segment_key, HeaderValue, Put, Gone, Refusal, Store, with_change, Asked, IsSealOf, Done, Answers, ByState, Claims, Does, Legal, LegalBy, Refuses, Seals, with_name, without_name, RefusesClaim, RefusesCommit, RefusesDelete, RefusesGcStep, RefusesOn, RefusesRead, RefusesSeal, RefusesUnique, Collection, Machine, Idle, Writing, Reading, RunState, Running, Stopped, Stepped, keeping, one_more, put_at, Values}
 use Rattle.std.proofs.Common.{List, take}
 use Rattle.std.specs.FinMap as finite
 use Rattle.container_meta.specs.Segments.{Contents}
@@ -98,6 +98,14 @@ module _ {V R : Type 0} where
       collection = ap (λ (x : Machine V R). x.collection) others;
     }
 
+    count_keeps : (refusal : Refusal) (m n : Machine V R) → RefusesUnique v refusal m n → SameStore m n
+    count_keeps refusals.Memory m n others = same_of m n others
+    count_keeps refusals.DiskRead m n others = same_of m n others
+    count_keeps (refusals.Corrupt slot offset count want got) m n (unknown, others) = same_of m n others
+    count_keeps (refusals.Missing key) m n (unknown, others) = same_of m n others
+    count_keeps (refusals.Damaged at why) m n (unknown, others) = same_of m n others
+    count_keeps refusal m n refuses = absurd refuses
+
     on_keeps : (a : ℕ) (step : Asked V) (refusal : Refusal) (m n : Machine V R) → RefusesOn v a step refusal m n → SameStore m n
     on_keeps a (asked.Claim seg) refusal m n refuses = claim_keeps a seg refusal m n refuses
     on_keeps a (asked.Seal offered) refusal m n refuses = seal_keeps a offered refusal m n refuses
@@ -113,6 +121,7 @@ module _ {V R : Type 0} where
     on_keeps a (asked.GcStart percent) (refusals.Damaged at why) m n (none, (unknown, others)) = same_of m n others
     on_keeps a (asked.GcStart percent) (refusals.Collecting phase) m n (is, others) = same_of m n others
     on_keeps a asked.GcStep refusal m n refuses = collect_keeps refusal m n refuses
+    on_keeps a asked.Unique refusal m n refuses = count_keeps refusal m n refuses
     on_keeps a step refusal m n refuses = absurd refuses
 
     pub refused_keeps : (a : ℕ) (step : Asked V) (refusal : Refusal) (m n : Machine V R) → Refuses v a step refusal m n → SameStore m n
@@ -212,6 +221,7 @@ module _ {V R : Type 0} where
     done_beside a (asked.GcStart percent) (done.Started snapshot) c m n ran not (none, is, others) = absurd (let wrong : None ≡ Some c = sym none ∙ ran in cc)
     done_beside a asked.GcStep answer c m n ran not does = absurd (not refl)
     done_beside a asked.Stat (done.Counted files segments bytes used free) c m n ran not (is, others) = beside_same _ c m n ran (same_of m n others) (no_seal _ (λ none. none))
+    done_beside a asked.Unique (done.Unique segments bytes) c m n ran not (is, others) = beside_same _ c m n ran (same_of m n others) (no_seal _ (λ none. none))
     done_beside a what answer c m n ran not does = absurd does
 
     -- ---- a step that is none of the collection

@@ -1,5 +1,5 @@
 -- A step of the machine of files is one of the machine of roots, once all but the roots is forgotten.
-use Rattle.store_machine.proofs.Prelude.{◌≡◌, inl, inr, ◌≤◌, ◌<◌, ◌+◌, ◌-◌, ◌^◌, ℕ, suc, false, [], ◌∷◌, ◌++◌, length, map, Contains, Option, Some, None, option_map, Result, Ok, Err, refl, sym, ◌∙◌, ap, subst, ACTORS, PinMap, pin_of, KindSegment, segment_key, Root, Put, Gone, half_cells, LAST_ID, MOST_NAMES, RESERVE, Top, start_of, PartKind, Phase, Refusal, Store, free_slots, last_id, with_freed, CanRise, with_change, with_sealed, Asked, Begins, GoesOn, IsCollecting, Makes, MayBreak, last_by, marking, marks_of, phase_in, swept_by, Done, Forgets, Rests, SameNow, SamePart, SameState, asked_of, forget_collection, Answers, ByState, Claims, Deletes, Does, GivesBytes, GivesUp, HasName, HasNumbers, HasRoom, HasSlot, IsAtEnd, IsAtRightPart, IsUnkept, broken_by, Keeps, LacksNumbers, MayCommit, OpensValue, Refuses, RefusesClaim, RefusesCommit, RefusesDelete, RefusesGcStep, RefusesOn, RefusesRead, RefusesSeal, Seals, LegalBy, counted, with_name, without_name, Collection, Found, Idle, Writing, Reading, RunState, Running, Stopped, all_idle, keeping, kind_of, one_more, part_in, put_at, keys_kept, values_read, MayBeFound, MayRefuseOpening, Reopens, freeing, IsStuck, of_files, of_roots, top_of}
+use Rattle.store_machine.proofs.Prelude.{◌≡◌, inl, inr, ◌≤◌, ◌<◌, ◌+◌, ◌-◌, ◌^◌, ℕ, suc, false, [], ◌∷◌, ◌++◌, length, map, Contains, Option, Some, None, option_map, Result, Ok, Err, refl, sym, ◌∙◌, ap, subst, ACTORS, PinMap, pin_of, KindSegment, segment_key, Root, Put, Gone, half_cells, LAST_ID, MOST_NAMES, RESERVE, Top, start_of, PartKind, Phase, Refusal, Store, free_slots, last_id, with_freed, CanRise, with_change, with_sealed, Asked, Begins, GoesOn, IsCollecting, Makes, MayBreak, last_by, marking, marks_of, phase_in, swept_by, Done, Forgets, Rests, SameNow, SamePart, SameState, asked_of, forget_collection, Answers, ByState, Claims, Deletes, Does, GivesBytes, GivesUp, HasName, HasNumbers, HasRoom, HasSlot, IsAtEnd, IsAtRightPart, IsUnkept, broken_by, Keeps, LacksNumbers, MayCommit, OpensValue, Refuses, RefusesClaim, RefusesCommit, RefusesDelete, RefusesGcStep, RefusesOn, RefusesRead, RefusesSeal, RefusesUnique, Seals, LegalBy, counted, with_name, without_name, Collection, Found, Idle, Writing, Reading, RunState, Running, Stopped, all_idle, keeping, kind_of, one_more, part_in, put_at, keys_kept, values_read, MayBeFound, MayRefuseOpening, Reopens, freeing, IsStuck, of_files, of_roots, top_of}
 use Rattle.std.proofs.Common.{List, slice_get, take}
 use Rattle.std.specs.FinMap as finite
 use Rattle.container_meta.specs.Segments.{Contents}
@@ -367,6 +367,8 @@ module _ (m : F) (r : G) (same : Forgets m r) where
   done_same a asked.Stat (done.Counted files segments bytes used free) n (is, others) =
       stays (λ t. Does of_roots a asked.Stat (done.Counted files segments bytes used free) r t) n others
       (is ∙ ap (λ (k : ℕ). counted k m.store) (sym (len_same m.now r.now same.now)) ∙ ap (counted (finite.len r.now.names)) (sym same.store), refl)
+  done_same a asked.Unique (done.Unique segments bytes) n (is, others) =
+      stays (λ t. Does of_roots a asked.Unique (done.Unique segments bytes) r t) n others (tt, refl)
   done_same a step answer n does = absurd does
 
   -- ---- steps that are refused
@@ -511,6 +513,14 @@ module _ (m : F) (r : G) (same : Forgets m r) where
   uncollected (refusals.Damaged at why) n (is, (unknown, others)) = absurd (unknown tt)
   uncollected refusal n refuses = absurd refuses
 
+  uncounted : (refusal : Refusal) (n : F) → RefusesUnique of_files refusal m n → Left (λ t. RefusesUnique of_roots refusal r t) n
+  uncounted refusals.Memory n others = stays (λ t. RefusesUnique of_roots refusals.Memory r t) n others refl
+  uncounted refusals.DiskRead n others = stays (λ t. RefusesUnique of_roots refusals.DiskRead r t) n others refl
+  uncounted (refusals.Corrupt slot offset count want got) n (unknown, others) = absurd (unknown tt)
+  uncounted (refusals.Missing key) n (unknown, others) = absurd (unknown tt)
+  uncounted (refusals.Damaged at why) n (unknown, others) = absurd (unknown tt)
+  uncounted refusal n refuses = absurd refuses
+
   refused_on : (a : ℕ) (step : Asked (List ℕ)) (refusal : Refusal) (n : F) → RefusesOn of_files a step refusal m n
       → Left (λ t. RefusesOn of_roots a (asked_of step) refusal r t) n
   refused_on a (asked.Claim seg) refusal n refuses = unclaimed a seg refusal n refuses
@@ -530,6 +540,7 @@ module _ (m : F) (r : G) (same : Forgets m r) where
   refused_on a (asked.GcStart percent) (refusals.Collecting phase) n (is, others) =
       stays (λ t. RefusesOn of_roots a (asked.GcStart percent) (refusals.Collecting phase) r t) n others (runs phase is, refl)
   refused_on a asked.GcStep refusal n refuses = uncollected refusal n refuses
+  refused_on a asked.Unique refusal n refuses = uncounted refusal n refuses
   refused_on a step refusal n refuses = absurd refuses
 
   pub taken_same : (step : Asked (List ℕ)) → taken_by (asked_of step) ≡ taken_by step
@@ -546,6 +557,7 @@ module _ (m : F) (r : G) (same : Forgets m r) where
   taken_same (asked.GcStart percent) = refl
   taken_same asked.GcStep = refl
   taken_same asked.Stat = refl
+  taken_same asked.Unique = refl
   taken_same asked.Reopen = refl
 
   right_part : (a : ℕ) (step : Asked (List ℕ)) → IsAtRightPart of_files a step m → IsAtRightPart of_roots a (asked_of step) r

@@ -48,6 +48,7 @@ unrefused a (done.Started snapshot) is = is
 unrefused a (done.Did phase) is = is
 unrefused a (done.Collected freed copied) is = is
 unrefused a (done.Counted files segments bytes used free) is = is
+unrefused a (done.Unique segments bytes) is = is
 unrefused a (done.Reopened files) is = is
 
 -- no write that failed

@@ -131,6 +131,7 @@ module _ (m n : F) (r t : G) (was : Forgets m r) (now : Forgets n t) where
   done_adds a (asked.Commit name file) (done.Committed sequence) does = (does.right, does.whole)
   done_adds a asked.ReadNext (done.Bytes bytes) does = bytes_next a bytes does
   done_adds a asked.GcStep (done.Did phase) does = step_adds phase does
+  done_adds a asked.Unique (done.Unique segments bytes) (unique, others) = unique
   done_adds a step answer does = tt
 
   -- ---- refused
@@ -169,6 +170,9 @@ module _ (m n : F) (r t : G) (was : Forgets m r) (now : Forgets n t) where
   refused_adds a asked.GcStep (refusals.Corrupt slot offset count want got) (is, (unknown, others)) = absurd (unknown tt)
   refused_adds a asked.GcStep (refusals.Missing key) (is, (unknown, others)) = absurd (unknown tt)
   refused_adds a asked.GcStep (refusals.Damaged at why) (is, (unknown, others)) = absurd (unknown tt)
+  refused_adds a asked.Unique (refusals.Corrupt slot offset count want got) (unknown, others) = absurd (unknown tt)
+  refused_adds a asked.Unique (refusals.Missing key) (unknown, others) = absurd (unknown tt)
+  refused_adds a asked.Unique (refusals.Damaged at why) (unknown, others) = absurd (unknown tt)
   refused_adds a step refusal refuses = tt
 
   -- nothing is added to a refusal for what the actor is at
@@ -179,6 +183,7 @@ module _ (m n : F) (r t : G) (was : Forgets m r) (now : Forgets n t) where
   wrong_part a asked.ReadNext kind = tt
   wrong_part a (asked.GcStart percent) kind = tt
   wrong_part a asked.GcStep kind = tt
+  wrong_part a asked.Unique kind = tt
   wrong_part a step kind = tt
 
   -- nor because it is stopped
@@ -189,6 +194,7 @@ module _ (m n : F) (r t : G) (was : Forgets m r) (now : Forgets n t) where
   when_stopped a asked.ReadNext at = tt
   when_stopped a (asked.GcStart percent) at = tt
   when_stopped a asked.GcStep at = tt
+  when_stopped a asked.Unique at = tt
   when_stopped a step at = tt
 
   all_refused : (a : ℕ) (step : Asked (List ℕ)) (refusal : Refusal) → Refuses of_files a step refusal m n → AddsToRefused a step refusal m t

@@ -75,6 +75,7 @@ reads_go a asked.EndRead done.Dropped m n read runs (was, others) = puts_part a 
 reads_go a asked.Abort done.Aborted m n read runs (was, others) = puts_part a Idle m n runs others
 reads_go a asked.ListNames (done.Listed files) m n read runs (is, others) = stays m n runs others
 reads_go a asked.Stat (done.Counted files segments bytes used free) m n read runs (is, others) = stays m n runs others
+reads_go a asked.Unique (done.Unique segments bytes) m n read runs (is, others) = stays m n runs others
 reads_go a (asked.GcStart percent) (done.Started snapshot) m n read runs (none, is, others) =
     record { now = ap (λ (x : F). x.now) others; state = ap (λ (x : F). x.state) others ∙ runs }
 reads_go a asked.GcStep (done.Did phase) m n read runs goes = record { now = ap (λ (x : F). x.now) goes.others; state = ap (λ (x : F). x.state) goes.others ∙ runs }
@@ -85,6 +86,7 @@ reads_go a asked.EndRead answer m n read runs does = absurd does
 reads_go a asked.Abort answer m n read runs does = absurd does
 reads_go a asked.ListNames answer m n read runs does = absurd does
 reads_go a asked.Stat answer m n read runs does = absurd does
+reads_go a asked.Unique answer m n read runs does = absurd does
 reads_go a (asked.GcStart percent) answer m n read runs does = absurd does
 reads_go a asked.GcStep answer m n read runs does = absurd does
 reads_go a step answer m n read runs does = absurd read
@@ -115,6 +117,7 @@ fine_goes a asked.ListNames (Ok answer) m n fine ok runs legal = reads_go a aske
 fine_goes a asked.EndRead (Ok answer) m n fine ok runs legal = reads_go a asked.EndRead answer m n tt runs (by_running a asked.EndRead (Ok answer) m n runs legal)
 fine_goes a asked.Abort (Ok answer) m n fine ok runs legal = reads_go a asked.Abort answer m n tt runs (by_running a asked.Abort (Ok answer) m n runs legal)
 fine_goes a asked.Stat (Ok answer) m n fine ok runs legal = reads_go a asked.Stat answer m n tt runs (by_running a asked.Stat (Ok answer) m n runs legal)
+fine_goes a asked.Unique (Ok answer) m n fine ok runs legal = reads_go a asked.Unique answer m n tt runs (by_running a asked.Unique (Ok answer) m n runs legal)
 fine_goes a (asked.GcStart percent) (Ok answer) m n fine ok runs legal = reads_go a (asked.GcStart percent) answer m n tt runs
     (by_running a (asked.GcStart percent) (Ok answer) m n runs legal)
 fine_goes a asked.GcStep (Ok answer) m n fine ok runs legal = reads_go a asked.GcStep answer m n tt runs (by_running a asked.GcStep (Ok answer) m n runs legal)

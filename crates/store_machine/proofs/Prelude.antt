@@ -52,7 +52,7 @@ pub use Rattle.store_machine.specs.Commands.{AllFollow, AreLinesOf, Collect, Com
 pub use Rattle.store_machine.specs.Done.{Done}
 pub use Rattle.store_machine.specs.Forgetting.{Forgets, Rests, SameNow, SamePart, SameState, asked_of, forget_collection}
 pub use Rattle.store_machine.specs.Ingests.{AddsIn, HasRoomFor, IsDueOf, IsPut}
-pub use Rattle.store_machine.specs.Legal.{Answers, ByState, Claims, Deletes, Does, GivesBytes, GivesUp, HasName, HasNumbers, HasRoom, HasSlot, IsAtEnd, IsAtRightPart, IsUnkept, Keeps, LacksNumbers, Legal, LegalBy, MayCommit, OpensValue, Refuses, RefusesClaim, RefusesCommit, RefusesDelete, RefusesGcStep, RefusesOn, RefusesRead, RefusesSeal, Seals, broken_by, counted, listing, with_name, without_name}
+pub use Rattle.store_machine.specs.Legal.{Answers, ByState, Claims, Deletes, Does, GivesBytes, GivesUp, HasName, HasNumbers, HasRoom, HasSlot, IsAtEnd, IsAtRightPart, IsUnkept, Keeps, LacksNumbers, Legal, LegalBy, MayCommit, OpensValue, Refuses, RefusesClaim, RefusesCommit, RefusesDelete, RefusesGcStep, RefusesOn, RefusesRead, RefusesSeal, RefusesUnique, Seals, broken_by, counted, listing, with_name, without_name}
 pub use Rattle.store_machine.specs.Lines.{Acts, AreDid, AreTurns, Bars, Desk, Finishes, IsDueStep, Line, NothingIsDue, Pushes, Session, TurnsStop, actor_of, all_none, answer_of, kind_at, kind_by, new_session, reply_of, session_of, step_of, takes, unless_refused}
 pub use Rattle.store_machine.specs.Machine.{Collection, Found, Idle, Machine, Marking, Part, Reading, Recording, RunState, Running, Stepped, Stopped, Sweep, Sweeping, Writing, all_idle, keeping, kind_of, one_more, part_in, put_at}
 pub use Rattle.store_machine.specs.Needs.{HasCopy, IsNeeded, NamesNeed, first_unkept, forgotten_beside, keys_kept, keys_of, or_else, values_read, with_pins}

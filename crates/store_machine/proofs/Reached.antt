@@ -20,7 +20,7 @@ module _ (X : Type 0) where
   abbrev values_in : List E → List X
   values_in es = map (λ (e : E). e.1) es
 
-  value_there : (name : List ℕ) (v : X) (es : List E) → find order name es ≡ Some v → Contains (values_in es) v
+  pub value_there : (name : List ℕ) (v : X) (es : List E) → find order name es ≡ Some v → Contains (values_in es) v
   value_there name v [] found = absurd (let wrong : None ≡ Some v = found in cc)
   value_there name v (e ∷ es) found = by (value_there name v es) (eq_by_cmp order name e.0) found
     where

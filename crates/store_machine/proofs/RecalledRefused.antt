@@ -1,5 +1,5 @@
 -- What the machine of roots refuses the machine of files refuses, where its content tells it.
-use Rattle.store_machine.proofs.Prelude.{◌≡◌, inl, inr, ◌<◌, ◌≤◌, ℕ, [], ◌∷◌, Some, None, refl, sym, ◌∙◌, ap, subst, KindSegment, Put, Gone, LAST_ID, MOST_NAMES, Top, Refusal, free_slots, Asked, Forgets, Rests, SamePart, asked_of, IsAtRightPart, Refuses, RefusesClaim, RefusesCommit, RefusesDelete, RefusesGcStep, RefusesOn, RefusesRead, RefusesSeal, broken_by, with_name, without_name, Reading, part_in, put_at, AddsToRefused, IsStuck, StaysAt, of_files, of_roots}
+use Rattle.store_machine.proofs.Prelude.{◌≡◌, inl, inr, ◌<◌, ◌≤◌, ℕ, [], ◌∷◌, Some, None, refl, sym, ◌∙◌, ap, subst, KindSegment, Put, Gone, LAST_ID, MOST_NAMES, Top, Refusal, free_slots, Asked, Forgets, Rests, SamePart, asked_of, IsAtRightPart, Refuses, RefusesClaim, RefusesCommit, RefusesDelete, RefusesGcStep, RefusesOn, RefusesRead, RefusesSeal, RefusesUnique, broken_by, with_name, without_name, Reading, part_in, put_at, AddsToRefused, IsStuck, StaysAt, of_files, of_roots}
 use Rattle.std.proofs.Common.{List}
 use Rattle.container_meta.specs.Segments.{Contents}
 use Rattle.refusals.specs.declared.refusal.Phase.TheVariants as phases
@@ -148,6 +148,14 @@ module _ (m : F) (r : G) (same : Forgets m r) where
   uncollected (refusals.Damaged at why) t refuses a adds = absurd adds
   uncollected refusal t refuses a adds = absurd refuses
 
+  uncounted : (refusal : Refusal) (t : G) → RefusesUnique of_roots refusal r t → (a : ℕ) → Added a asked.Unique refusal t → Left (λ n. RefusesUnique of_files refusal m n) t
+  uncounted refusals.Memory t others a adds = stays m r same (λ n. RefusesUnique of_files refusals.Memory m n) t others refl
+  uncounted refusals.DiskRead t others a adds = stays m r same (λ n. RefusesUnique of_files refusals.DiskRead m n) t others refl
+  uncounted (refusals.Corrupt slot offset count want got) t refuses a adds = absurd adds
+  uncounted (refusals.Missing key) t refuses a adds = absurd adds
+  uncounted (refusals.Damaged at why) t refuses a adds = absurd adds
+  uncounted refusal t refuses a adds = absurd refuses
+
   refused_on : (a : ℕ) (step : Asked (List ℕ)) (refusal : Refusal) (t : G) → RefusesOn of_roots a (asked_of step) refusal r t → Added a step refusal t
       → Left (λ n. RefusesOn of_files a step refusal m n) t
   refused_on a (asked.Claim seg) refusal t refuses adds = unclaimed a seg refusal t refuses adds
@@ -168,6 +176,7 @@ module _ (m : F) (r : G) (same : Forgets m r) where
   refused_on a (asked.GcStart percent) (refusals.Collecting phase) t (is, others) adds =
       stays m r same (λ n. RefusesOn of_files a (asked.GcStart percent) (refusals.Collecting phase) m n) t others (runs m r same phase is, refl)
   refused_on a asked.GcStep refusal t refuses adds = uncollected refusal t refuses a adds
+  refused_on a asked.Unique refusal t refuses adds = uncounted refusal t refuses a adds
   refused_on a step refusal t refuses adds = absurd refuses
 
   right_part : (a : ℕ) (step : Asked (List ℕ)) → IsAtRightPart of_roots a (asked_of step) r → IsAtRightPart of_files a step m

@@ -45,6 +45,8 @@ module _ (m : F) (r : G) (same : Forgets m r) where
   done_back a asked.Stat (done.Counted files segments bytes used free) t (is, others) adds =
       stays m r same (λ n. Does of_files a asked.Stat (done.Counted files segments bytes used free) m n) t others
       (is ∙ ap (λ (k : ℕ). counted k r.store) (len_same m.now r.now same.now) ∙ ap (counted (finite.len m.now.names)) same.store, refl)
+  done_back a asked.Unique (done.Unique segments bytes) t (is, others) adds =
+      stays m r same (λ n. Does of_files a asked.Unique (done.Unique segments bytes) m n) t others (adds, refl)
   done_back a step answer t does adds = absurd does
 
   answered_back : (a : ℕ) (step : Asked (List ℕ)) (told : Result Done Refusal) (t : G) → Answers of_roots a (asked_of step) told r t → AddsToAnswer a step told m t

@@ -322,6 +322,7 @@ module _ {V R : Type 0} (v : Values V R) where
     none_lacks a (asked.GcStart percent) key m n other on = on
     none_lacks a asked.GcStep key m n other on = on
     none_lacks a asked.Stat key m n other on = on
+    none_lacks a asked.Unique key m n other on = on
     none_lacks a step key m n other on = other
 
     told_not : (a : ℕ) (step : Asked V) (told : Result Done Refusal) (m n : Machine V R) → IsOther v step → Legal v (step_of v a step told) m n
@@ -360,6 +361,7 @@ module _ {V R : Type 0} (v : Values V R) where
       is_other (lines.Gc percent) actor step is = subst (IsOther v) (sym is) tt
       is_other lines.GcStep actor step is = subst (IsOther v) (sym is) tt
       is_other lines.Stat actor step is = subst (IsOther v) (sym is) tt
+      is_other lines.Unique actor step is = subst (IsOther v) (sym is) tt
       is_other line actor step is = absurd is
 
       -- ---- a collection goes on
@@ -522,6 +524,7 @@ module _ {V R : Type 0} (v : Values V R) where
       acts (lines.Gc percent) reply ss d e holds run admits act = step_acts (lines.Gc percent) reply ss d e holds run act
       acts lines.GcStep reply ss d e holds run admits act = step_acts lines.GcStep reply ss d e holds run act
       acts lines.Stat reply ss d e holds run admits act = step_acts lines.Stat reply ss d e holds run act
+      acts lines.Unique reply ss d e holds run admits act = step_acts lines.Unique reply ss d e holds run act
       acts lines.Reopen reply ss d e holds run admits act = step_acts lines.Reopen reply ss d e holds run act
 
       bars_not : (line : LineValue) (d : Desk V R) (key : List ℕ) (refusal : Refusal) → Bars v line d refusal → refusal ≡ refusals.Unpinned key → ⊥

@@ -1,5 +1,5 @@
 -- What steps leave of what actors are at that write.
-use Rattle.store_machine.proofs.Prelude.{◌≡◌, ◌≢◌, ◌⊎◌, ◌<◌, inl, inr, ◌∙◌, ℕ, zero, suc, length, slice_index_or, slice_set, Option, Some, None, Result, Ok, Err, refl, sym, ap, subst, arith, cases_lt, get_or-set_other, get_or_past, length-set, PinMap, KindSegment, Refusal, Store, Asked, Done, ByState, Does, Legal, Refuses, RefusesClaim, RefusesCommit, RefusesDelete, RefusesGcStep, RefusesOn, RefusesSeal, Found, Machine, Part, Idle, Writing, Reading, RunState, Running, Stopped, kind_of, part_in, Values}
+use Rattle.store_machine.proofs.Prelude.{◌≡◌, ◌≢◌, ◌⊎◌, ◌<◌, inl, inr, ◌∙◌, ℕ, zero, suc, length, slice_index_or, slice_set, Option, Some, None, Result, Ok, Err, refl, sym, ap, subst, arith, cases_lt, get_or-set_other, get_or_past, length-set, PinMap, KindSegment, Refusal, Store, Asked, Done, ByState, Does, Legal, Refuses, RefusesClaim, RefusesCommit, RefusesDelete, RefusesGcStep, RefusesOn, RefusesSeal, RefusesUnique, Found, Machine, Part, Idle, Writing, Reading, RunState, Running, Stopped, kind_of, part_in, Values}
 use Rattle.std.proofs.Common.{List}
 use Rattle.std.specs.FinMap as finite
 use Rattle.std.proofs.lemmas.List.{get_or-set_same}
@@ -131,6 +131,14 @@ module _ {V R : Type 0} where
     collect_apart a (refusals.Damaged at why) m n (some, (unknown, others)) = still a m n others
     collect_apart a refusal m n refuses = absurd refuses
 
+    count_apart : (a : ℕ) (refusal : Refusal) (m n : Machine V R) → RefusesUnique v refusal m n → Apart a m n
+    count_apart a refusals.Memory m n others = still a m n others
+    count_apart a refusals.DiskRead m n others = still a m n others
+    count_apart a (refusals.Corrupt slot offset count want got) m n (unknown, others) = still a m n others
+    count_apart a (refusals.Missing key) m n (unknown, others) = still a m n others
+    count_apart a (refusals.Damaged at why) m n (unknown, others) = still a m n others
+    count_apart a refusal m n refuses = absurd refuses
+
     reads_none : (a : ℕ) (m : Machine V R) (value : V) (rest : R) → part_in m a ≡ Reading value rest → (pins : PinMap) → part_in m a ≡ Writing pins → ⊥
     reads_none a m value rest was pins writes = let wrong : Reading value rest ≡ Writing pins = sym was ∙ writes in cc
 
@@ -150,6 +158,7 @@ module _ {V R : Type 0} where
     on_apart a (asked.GcStart percent) (refusals.Damaged at why) m n (none, (unknown, others)) = still a m n others
     on_apart a (asked.GcStart percent) (refusals.Collecting phase) m n (is, others) = still a m n others
     on_apart a asked.GcStep refusal m n refuses = collect_apart a refusal m n refuses
+    on_apart a asked.Unique refusal m n refuses = count_apart a refusal m n refuses
     on_apart a step refusal m n refuses = absurd refuses
 
     pub refused_apart : (a : ℕ) (step : Asked V) (refusal : Refusal) (m n : Machine V R) → Refuses v a step refusal m n → Apart a m n
@@ -187,6 +196,7 @@ module _ {V R : Type 0} where
     done_apart a asked.GcStep (done.Did phase) m n other does = inl (ap (λ (x : Machine V R). x.parts) does.others)
     done_apart a asked.GcStep (done.Collected freed copied) m n other does = inl (ap (λ (x : Machine V R). x.parts) does.others)
     done_apart a asked.Stat (done.Counted files segments bytes used free) m n other (is, others) = still a m n others
+    done_apart a asked.Unique (done.Unique segments bytes) m n other (is, others) = still a m n others
     done_apart a asked.Begin answer m n other does = absurd does
     done_apart a (asked.OpenRead name) answer m n other does = absurd does
     done_apart a asked.ReadNext answer m n other does = absurd does
@@ -196,6 +206,7 @@ module _ {V R : Type 0} where
     done_apart a (asked.GcStart percent) answer m n other does = absurd does
     done_apart a asked.GcStep answer m n other does = absurd does
     done_apart a asked.Stat answer m n other does = absurd does
+    done_apart a asked.Unique answer m n other does = absurd does
     done_apart a step answer m n other does = absurd other
 
     -- ---- whatever the state is

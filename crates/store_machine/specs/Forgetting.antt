@@ -30,6 +30,7 @@ asked_of asked.ListNames = asked.ListNames
 asked_of (asked.GcStart percent) = asked.GcStart percent
 asked_of asked.GcStep = asked.GcStep
 asked_of asked.Stat = asked.Stat
+asked_of asked.Unique = asked.Unique
 asked_of asked.Reopen = asked.Reopen
 
 abbrev pub forget_step : Stepped (List ℕ) → Stepped Root

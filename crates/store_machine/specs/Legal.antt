@@ -190,6 +190,7 @@ module _ {V R : Type 0} (v : Values V R) where
   Does a asked.GcStep (done.Collected freed copied) m n = Ends v freed copied m n
   Does a asked.Stat (done.Counted files segments bytes used free) m n =
       (done.Counted files segments bytes used free ≡ counted (finite.len m.now.names) m.store) × (n ≡ m)
+  Does a asked.Unique (done.Unique segments bytes) m n = v.AreUnique (finite.values m.now.names) segments bytes × (n ≡ m)
   Does a step answer m n = ⊥
 
   -- ---- a step that is refused
@@ -295,6 +296,15 @@ module _ {V R : Type 0} (v : Values V R) where
       ⊎ IsCollecting phases.Copy m.store m.collection) × OnlyUnknown m n
   RefusesGcStep refusal m n = ⊥
 
+  -- the nodes of the trees of all names are read, and memory is taken for each key
+  abbrev pub RefusesUnique : Refusal → Machine V R → Machine V R → Type 0
+  RefusesUnique Memory m n = n ≡ m
+  RefusesUnique DiskRead m n = n ≡ m
+  RefusesUnique (Corrupt slot offset count want got) m n = OnlyUnknown m n
+  RefusesUnique (Missing key) m n = OnlyUnknown m n
+  RefusesUnique (Damaged at why) m n = OnlyUnknown m n
+  RefusesUnique refusal m n = ⊥
+
   -- Memory is free, where the step takes any, and comes whatever the actor is at. A call of the disk that failed is told by its count of
   -- faults.
   abbrev pub RefusesOn : ℕ → Asked V → Refusal → Machine V R → Machine V R → Type 0
@@ -312,6 +322,7 @@ module _ {V R : Type 0} (v : Values V R) where
   RefusesOn a (asked.GcStart percent) (Damaged at why) m n = (m.collection ≡ None) × OnlyUnknown m n
   RefusesOn a (asked.GcStart percent) (Collecting phase) m n = IsCollecting phase m.store m.collection × (n ≡ m)
   RefusesOn a asked.GcStep refusal m n = RefusesGcStep refusal m n
+  RefusesOn a asked.Unique refusal m n = RefusesUnique refusal m n
   RefusesOn a step refusal m n = ⊥
 
   -- the actor is at another thing than the step takes

@@ -69,6 +69,7 @@ reply_of a (Ok (done.Did phase)) = replies.Step phase
 reply_of a (Ok (done.Collected freed copied)) = replies.Collected freed copied
 reply_of a (Ok (done.Counted files segments bytes used free)) =
     replies.Stat (record { files = files; segments = segments; bytes = bytes; used = used; free = free })
+reply_of a (Ok (done.Unique segments bytes)) = replies.Unique segments bytes
 reply_of a (Ok (done.Reopened files)) = replies.Opened files
 reply_of a (Err refusal) = replies.Refused refusal
 
@@ -211,6 +212,7 @@ module _ {V R : Type 0} (v : Values V R) where
   IsStep (lines.Gc percent) actor step = step ≡ asked.GcStart percent
   IsStep lines.GcStep actor step = step ≡ asked.GcStep
   IsStep lines.Stat actor step = step ≡ asked.Stat
+  IsStep lines.Unique actor step = step ≡ asked.Unique
   IsStep line actor step = ⊥
 
   -- collection steps went on, up to one that was its end, or was refused

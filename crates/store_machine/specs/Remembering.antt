@@ -3,6 +3,7 @@
 -- roots as of files; so do an opened read and its end, by the names and the rests that Forgetting.antt ties. It is said of the machine of
 -- files, m, before the step; and of that of roots after it, t, only where a row speaks of what the step made.
 use Rattle.std.specs.Prelude.{◌≡◌, ℕ, suc, ◌≤◌, List, [], ◌∷◌, ◌++◌, get_or, length, take, Contains, Some, None, Result, Ok, Err}
+use Rattle.std.specs.FinMap as finite
 use Rattle.std.specs.List.{AllByRecursion}
 use Rattle.container_meta.specs.declared.kind.Kind.{Kind}
 use Rattle.container_meta.specs.Segments.{Segment, segment_key}
@@ -77,6 +78,8 @@ AddsToDone a (asked.Seal offered) (done.Sealed id count) m t = AllFit of_files (
 AddsToDone a (asked.Commit name file) (done.Committed sequence) m t = IsWhole file m
 AddsToDone a asked.ReadNext (done.Bytes bytes) m t = ComesNext a bytes m t
 AddsToDone a asked.GcStep (done.Did phase) m t = AddsToStep phase m t
+-- the counts are of the trees of the files that the names have
+AddsToDone a asked.Unique (done.Unique segments bytes) m t = of_files.AreUnique (finite.values m.now.names) segments bytes
 AddsToDone a step answer m t = Unit {0}
 
 -- ---- a step that is refused: what tells that a disk holds other than was written never comes where it tells its content
@@ -100,6 +103,9 @@ AddsToRefused a asked.GcStep DiskWrite m t = (stores : List Store) → t.state �
 AddsToRefused a asked.GcStep (Corrupt slot offset count want got) m t = ⊥
 AddsToRefused a asked.GcStep (Missing key) m t = ⊥
 AddsToRefused a asked.GcStep (Damaged at why) m t = ⊥
+AddsToRefused a asked.Unique (Corrupt slot offset count want got) m t = ⊥
+AddsToRefused a asked.Unique (Missing key) m t = ⊥
+AddsToRefused a asked.Unique (Damaged at why) m t = ⊥
 AddsToRefused a step refusal m t = Unit {0}
 
 -- ---- an opening

@@ -12,6 +12,7 @@ use Rattle.refusals.specs.declared.refusal.Refusal.TheVariants.{Corrupt, Damaged
 use Rattle.segmenter.specs.Segments.{segments_of}
 use Rattle.store_model.specs.Reserve.{tree_keys}
 use Rattle.store_model.specs.Trees.{file_tree, root_of}
+use Rattle.store_model.specs.Unique.{AreUnique}
 
 -- V is what a name has, R what is still to come of it for one who reads it.
 pub record Values (V R : Type 0) : Type 1 where
@@ -33,6 +34,8 @@ pub record Values (V R : Type 0) : Type 1 where
   pub Stays : R → Refusal → R → Type 0
   -- it has this key
   pub Needs : V → List ℕ → Type 0
+  -- the values have so many keys, each counted once, which have so many bytes
+  pub AreUnique : List V → (segments bytes : ℕ) → Type 0
 
 -- ---- files
 
@@ -52,6 +55,7 @@ of_files = record {
   Ends = λ rest. rest ≡ [];
   Stays = StaysAt;
   Needs = λ file key. Contains (tree_keys (file_tree file)) key;
+  AreUnique = AreUnique;
 }
 
 -- ---- roots: what comes next is named by digest, level and length, and is checked by these
@@ -104,4 +108,5 @@ of_roots = record {
   Ends = λ rest. rest ≡ [];
   Stays = λ rest refusal after. Walked rest after × IsStuck after refusal;
   Needs = λ root key. ⊥;
+  AreUnique = λ roots segments bytes. Unit {0};
 }

@@ -3,6 +3,7 @@ pub mod TurnSteps
 pub mod HeldOn
 pub mod Ingested
 pub mod KeptPins
+pub mod KindsFollow
 mod Prelude
 pub mod Results
 pub mod RightRoot

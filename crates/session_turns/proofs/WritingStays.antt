@@ -10,7 +10,7 @@ use Rattle.refusals.specs.declared.refusal.PartKind.TheVariants as kinds
 use Rattle.refusals.specs.declared.refusal.Refusal.TheVariants as refusals
 use Rattle.read_steps.specs.Readers as readers
 use Rattle.read_steps.specs.Readers.{IsReadRefusal}
-use Rattle.store_core.specs.Core.{ListRow, OpenRow, StatRow}
+use Rattle.store_core.specs.Core.{ListRow, OpenRow, StatRow, UniqueRow}
 
 -- ---- the parts of the others
 
@@ -105,6 +105,11 @@ module _ (a : ℕ) (buf : List ℕ) (old new : CoreState) where
   stat_rests (Ok answer) row = same_rests a old.parts new.parts row.1
   stat_rests (Err refusal) row = absurd row
 
+  unique_rests : (answer : Result Answer Refusal) → UniqueRow answer old new → Rested
+  unique_rests (Ok (answers.Unique segments bytes)) row = same_rests a old.parts new.parts row.parts_are
+  unique_rests (Err refusal) row = same_rests a old.parts new.parts row.parts_are
+  unique_rests answer row = absurd row
+
   delete_rests : (name : List ℕ) (answer : Result Answer Refusal) → DeleteRow name answer old new → Rested
   delete_rests name (Ok (answers.Deleted sequence)) row = same_rests a old.parts new.parts row.2
   delete_rests name (Err refusal) row = same_rests a old.parts new.parts row.1
@@ -137,6 +142,7 @@ module _ (a : ℕ) (buf : List ℕ) (old new : CoreState) where
   row_rests (steps.GcStart percent) answer quiet row = start_rests percent answer row
   row_rests steps.GcStep answer quiet row = gc_rests answer row
   row_rests steps.Stat answer quiet row = stat_rests answer row
+  row_rests steps.Unique answer quiet row = unique_rests answer row
   row_rests step answer quiet row = absurd quiet
 
   -- so it is after each step that was refused
@@ -154,6 +160,7 @@ module _ (a : ℕ) (buf : List ℕ) (old new : CoreState) where
   refused_rests (steps.GcStart percent) refusal row = row_rests (steps.GcStart percent) (Err refusal) tt row
   refused_rests steps.GcStep refusal row = row_rests steps.GcStep (Err refusal) tt row
   refused_rests steps.Stat refusal row = row_rests steps.Stat (Err refusal) tt row
+  refused_rests steps.Unique refusal row = row_rests steps.Unique (Err refusal) tt row
 
 module _ (e : Event) (old new : CoreState) where
   quiet_by : (stop : Option Stop) → IsQuiet e.step → StepsOr stop e old new → Rests e.actor old.parts new.parts

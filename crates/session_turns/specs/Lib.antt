@@ -1,3 +1,4 @@
+pub mod Kinds
 pub mod Owning
 pub mod Turning
 pub mod Turns

@@ -62,6 +62,7 @@ IsQuiet asked.ListNames = Unit {0}
 IsQuiet (asked.GcStart percent) = Unit {0}
 IsQuiet asked.GcStep = Unit {0}
 IsQuiet asked.Stat = Unit {0}
+IsQuiet asked.Unique = Unit {0}
 IsQuiet step = ⊥
 
 -- A step beside the file that an actor stores: another's, or one that was refused, or one by which no file is given.

@@ -1,4 +1,5 @@
 //! Laws of turns beside the steps of others (docs/MODEL.md, 'Turns').
+ghost use Rattle.session_turns.specs.Kinds.{GivingUpIsDone, KindsFollow, OthersStay};
 ghost use Rattle.session_turns.specs.Owning.{HoldsBegun, HoldsBeside, HoldsIngested, HoldsTurned, IngestedCommitIsRight, IngestedRootIsRight, IngestsBeside, ReadyRootIsRight, StoppedTurnsAreSteps, TurnsAreSteps};
 
 use store_core::HasState;
@@ -28,4 +29,12 @@ pub fn turns_are_given_right<C: HasState>()
     ensures turns { TurnsAreSteps C C.state }
     ensures stopped { StoppedTurnsAreSteps C C.state }
     ensures beside { IngestsBeside }
+{}
+
+/// What an actor is at changes by its own steps alone, and by each as `kind_after` says; and what it stores or reads it can give up, unless
+/// the store is stopped. The function does nothing.
+pub fn an_actor_is_at_what_it_did<C: HasState>()
+    ensures others { OthersStay C C.state }
+    ensures own { KindsFollow C C.state }
+    ensures given_up { GivingUpIsDone C C.state }
 {}

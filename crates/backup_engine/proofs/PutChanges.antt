@@ -59,6 +59,7 @@ last_is P commits asked.EndRead answer last = absurd last
 last_is P commits (asked.Delete name) answer last = absurd last
 last_is P commits asked.ListNames answer last = absurd last
 last_is P commits asked.Stat answer last = absurd last
+last_is P commits asked.Unique answer last = absurd last
 last_is P commits (asked.GcStart percent) answer last = absurd last
 last_is P commits asked.GcStep answer last = absurd last
 
@@ -78,6 +79,7 @@ refused_seals asked.EndRead refusal = refl
 refused_seals (asked.Delete name) refusal = refl
 refused_seals asked.ListNames refusal = refl
 refused_seals asked.Stat refusal = refl
+refused_seals asked.Unique refusal = refl
 refused_seals (asked.GcStart percent) refusal = refl
 refused_seals asked.GcStep refusal = refl
 
@@ -237,6 +239,7 @@ module _ (s : Store) (old new : CoreState) (on : IsOn s old) (runs : new.stop �
   by_step name bytes put actor buf (asked.Delete n) (Ok answer) asks other ok row effect = absurd asks
   by_step name bytes put actor buf asked.ListNames (Ok answer) asks other ok row effect = absurd asks
   by_step name bytes put actor buf asked.Stat (Ok answer) asks other ok row effect = absurd asks
+  by_step name bytes put actor buf asked.Unique (Ok answer) asks other ok row effect = absurd asks
   by_step name bytes put actor buf (asked.GcStart percent) (Ok answer) asks other ok row effect = absurd asks
   by_step name bytes put actor buf asked.GcStep (Ok answer) asks other ok row effect = absurd asks
 
@@ -336,6 +339,7 @@ module _ (s : Store) (old new : CoreState) (on : IsOn s old) where
   step_refused (asked.GcStart percent) no_gc actor buf refusal row effect = kept refusal effect.tables effect.disk.only.later
   step_refused asked.GcStep no_gc actor buf refusal row effect = absurd no_gc
   step_refused asked.Stat no_gc actor buf refusal row effect = kept refusal effect.tables effect.disk.only.later
+  step_refused asked.Unique no_gc actor buf refusal row effect = kept refusal effect.tables effect.disk.only.later
 
   was_put : (name : List ℕ) (root : Root) (answer : Answer) → NamesOne name (Put root) (Ok answer) old new → IsPutAt name s new
   was_put name root answer effect =
@@ -367,6 +371,7 @@ module _ (s : Store) (old new : CoreState) (on : IsOn s old) where
   put_last name bytes put (asked.Delete n) answer asks last effect = absurd last
   put_last name bytes put asked.ListNames answer asks last effect = absurd last
   put_last name bytes put asked.Stat answer asks last effect = absurd last
+  put_last name bytes put asked.Unique answer asks last effect = absurd last
   put_last name bytes put (asked.GcStart percent) answer asks last effect = absurd last
   put_last name bytes put asked.GcStep answer asks last effect = absurd last
 

@@ -166,6 +166,7 @@ module _ (first : Store) (base : List ℕ) where
     step_held name bytes put (asked.Delete n) (Ok answer) asks other ok effect = absurd asks
     step_held name bytes put asked.ListNames (Ok answer) asks other ok effect = absurd asks
     step_held name bytes put asked.Stat (Ok answer) asks other ok effect = absurd asks
+    step_held name bytes put asked.Unique (Ok answer) asks other ok effect = absurd asks
     step_held name bytes put (asked.GcStart percent) (Ok answer) asks other ok effect = absurd asks
     step_held name bytes put asked.GcStep (Ok answer) asks other ok effect = absurd asks
 
@@ -252,6 +253,7 @@ module _ (first : Store) (base : List ℕ) (right : Encodes base first) (reserve
     put_open ending may bytes put (asked.Delete n) answer asks last effect = absurd last
     put_open ending may bytes put asked.ListNames answer asks last effect = absurd last
     put_open ending may bytes put asked.Stat answer asks last effect = absurd last
+    put_open ending may bytes put asked.Unique answer asks last effect = absurd last
     put_open ending may bytes put (asked.GcStart percent) answer asks last effect = absurd last
     put_open ending may bytes put asked.GcStep answer asks last effect = absurd last
 
@@ -275,6 +277,7 @@ module _ (first : Store) (base : List ℕ) (right : Encodes base first) (reserve
     refused_open bytes put refusal (asked.Delete n) asks effect = absurd asks
     refused_open bytes put refusal asked.ListNames asks effect = absurd asks
     refused_open bytes put refusal asked.Stat asks effect = absurd asks
+    refused_open bytes put refusal asked.Unique asks effect = absurd asks
     refused_open bytes put refusal (asked.GcStart percent) asks effect = absurd asks
     refused_open bytes put refusal asked.GcStep asks effect = absurd asks
 

@@ -4,7 +4,7 @@ use Rattle.std.proofs.Common.{append_assoc}
 use Rattle.std.proofs.lemmas.List.{append-nil, length-append}
 use Rattle.std.proofs.lemmas.Slice.Zip.{AllZip-long}
 use Rattle.store_machine.specs.Commands.{ends}
-use Rattle.script_lines.specs.Grammar.{Begin, Push, Finish, Turn, Commit, Abort, Read, Next, Drop, Delete, ListNames, Stat, Reopen, Gc, GcStep, Sweep}
+use Rattle.script_lines.specs.Grammar.{Begin, Push, Finish, Turn, Commit, Abort, Read, Next, Drop, Delete, ListNames, Stat, Unique, Reopen, Gc, GcStep, Sweep}
 use Rattle.reply_text.specs.declared.ending.Ending.{Ending}
 use Rattle.script_lines.specs.ReplyValue as replies
 use Rattle.script_lines.specs.Script.{IsRightLine, ended}
@@ -77,6 +77,7 @@ of_actor (Gc percent) bytes is = λ actor none. absurd cc
 of_actor GcStep bytes is = λ actor none. absurd cc
 of_actor Sweep bytes is = λ actor none. absurd cc
 of_actor Stat bytes is = λ actor none. absurd cc
+of_actor Unique bytes is = λ actor none. absurd cc
 of_actor Reopen bytes is = λ actor none. absurd cc
 
 -- ---- how many

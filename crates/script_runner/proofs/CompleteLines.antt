@@ -179,6 +179,7 @@ module _ (D S : List ℕ → Type 0) (no_data : HasNoCollisions D) (no_nodes : H
       is_other (lines.Gc percent) actor step is = subst (IsOther of_files) (sym is) tt
       is_other lines.GcStep actor step is = subst (IsOther of_files) (sym is) tt
       is_other lines.Stat actor step is = subst (IsOther of_files) (sym is) tt
+      is_other lines.Unique actor step is = subst (IsOther of_files) (sym is) tt
       is_other line actor step is = absurd is
 
       step_acts : (line : LineValue) → (a : ℕ) × (step : Asked (List ℕ)) × IsStep of_files line a step × Ends of_files a [] step reply ss × (e.sessions ≡ d.sessions) → Went
@@ -214,6 +215,7 @@ module _ (D S : List ℕ → Type 0) (no_data : HasNoCollisions D) (no_nodes : H
       acts (lines.Gc percent) act = step_acts (lines.Gc percent) act
       acts lines.GcStep act = step_acts lines.GcStep act
       acts lines.Stat act = step_acts lines.Stat act
+      acts lines.Unique act = step_acts lines.Unique act
       acts lines.Reopen act = step_acts lines.Reopen act
 
       barred : (line : LineValue) (refusal : Refusal) → Bars of_files line d refusal → reply ≡ replies.Refused refusal → ss ≡ [] → Went

@@ -6,7 +6,7 @@ use Rattle.script_lines.specs.ReplyValue as replies
 use Rattle.store_machine.specs.Asked as asked
 use Rattle.store_machine.specs.Done.{Done}
 use Rattle.store_machine.specs.Done as done
-use Rattle.store_machine.specs.Legal.{Does, Refuses, RefusesClaim, RefusesCommit, RefusesDelete, RefusesGcStep, RefusesOn, RefusesSeal}
+use Rattle.store_machine.specs.Legal.{Does, Refuses, RefusesClaim, RefusesCommit, RefusesDelete, RefusesGcStep, RefusesOn, RefusesSeal, RefusesUnique}
 use Rattle.store_machine.specs.Offers.{AnyByRecursion}
 use Rattle.store_machine.specs.Opening.{MayRefuseOpening}
 use Rattle.store_machine.specs.Values.{StaysAt}
@@ -35,6 +35,7 @@ does_run a (asked.GcStart percent) (done.Started snapshot) m n none runs (nothin
 does_run a asked.GcStep (done.Did phase) m n none runs does = ap (λ (x : FileMachine). x.state) does.others ∙ runs
 does_run a asked.GcStep (done.Collected freed copied) m n none runs does = ap (λ (x : FileMachine). x.state) does.others ∙ runs
 does_run a asked.Stat (done.Counted files segments bytes used free) m n none runs (is, others) = ap (λ (x : FileMachine). x.state) others ∙ runs
+does_run a asked.Unique (done.Unique segments bytes) m n none runs (is, others) = ap (λ (x : FileMachine). x.state) others ∙ runs
 does_run a asked.Begin answer m n none runs does = absurd does
 does_run a (asked.Claim seg) answer m n none runs does = absurd does
 does_run a (asked.Seal offered) answer m n none runs does = absurd does
@@ -48,6 +49,7 @@ does_run a asked.ListNames answer m n none runs does = absurd does
 does_run a (asked.GcStart percent) answer m n none runs does = absurd does
 does_run a asked.GcStep answer m n none runs does = absurd does
 does_run a asked.Stat answer m n none runs does = absurd does
+does_run a asked.Unique answer m n none runs does = absurd does
 does_run a asked.Reopen answer m n none runs does = absurd none
 
 -- ---- one that is refused
@@ -125,6 +127,14 @@ module _ (m n : FileMachine) (runs : m.state ≡ Running) where
     collect_left (refusals.Damaged at why) (some, (unknown, others)) calm = absurd (unknown tt)
     collect_left refusal refuses calm = absurd refuses
 
+    unique_left : (refusal : Refusal) → RefusesUnique of_files refusal m n → IsUnblamed (replies.Refused refusal) → Left refusal n
+    unique_left refusals.Memory others calm = (inl tt, still others)
+    unique_left refusals.DiskRead others calm = absurd calm
+    unique_left (refusals.Corrupt slot offset count want got) (unknown, others) calm = absurd (unknown tt)
+    unique_left (refusals.Missing key) (unknown, others) calm = absurd (unknown tt)
+    unique_left (refusals.Damaged at why) (unknown, others) calm = absurd (unknown tt)
+    unique_left refusal refuses calm = absurd refuses
+
     reads_left : (rest after : List (List ℕ)) (refusal : Refusal) → StaysAt rest refusal after → IsUnblamed (replies.Refused refusal) → ⊥
     reads_left [] after refusal stays calm = stays
     reads_left (bytes ∷ rest) after refusals.DiskRead stays calm = calm
@@ -146,6 +156,7 @@ module _ (m n : FileMachine) (runs : m.state ≡ Running) where
     on_left a (asked.GcStart percent) (refusals.Damaged at why) (none, (unknown, others)) bytes calm clear = absurd (unknown tt)
     on_left a (asked.GcStart percent) (refusals.Collecting phase) (is, others) bytes calm clear = (inl tt, still others)
     on_left a asked.GcStep refusal refuses bytes calm clear = collect_left refusal refuses calm
+    on_left a asked.Unique refusal refuses bytes calm clear = unique_left refusal refuses calm
     on_left a step refusal refuses bytes calm clear = absurd refuses
 
     refused_left : (a : ℕ) (step : Asked (List ℕ)) (refusal : Refusal) → Refuses of_files a step refusal m n → BytesOf step (Err refusal) m n old new

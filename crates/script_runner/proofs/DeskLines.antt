@@ -27,7 +27,7 @@ use Rattle.script_runner.proofs.DeskReopens.{idle_give, read_runs, reopen_line}
 use Rattle.script_runner.proofs.DeskRuns.{lines_done, ran_none}
 use Rattle.script_runner.proofs.DeskSessions.{none_same}
 use Rattle.script_runner.proofs.DeskSteps.{taken_or_not}
-use Rattle.script_runner.proofs.DeskTaking.{delete_acts, drop_acts, gc_acts, gc_step_acts, list_acts, next_acts, read_acts, stat_acts, sweep_acts}
+use Rattle.script_runner.proofs.DeskTaking.{delete_acts, drop_acts, gc_acts, gc_step_acts, list_acts, next_acts, read_acts, stat_acts, sweep_acts, unique_acts}
 use Rattle.script_runner.proofs.DeskTurnLines.{commit_acts, push_acts, turn_acts}
 use Rattle.script_runner.proofs.FaultsCounted.{line_went, lines_go_on}
 use Rattle.script_runner.proofs.Fitting.{AtDesk, Fitted, Fitting, IsOfGiven, Keeps, Leads, LeavesEither}
@@ -74,6 +74,8 @@ module _ (F : Fitted) (r s : RunnerState F.C) (d : Desk F.V F.R) (at : AtDesk F 
       taken_or_not F r d at lines.Sweep reply s (λ is. cc) (λ admits acts. sweep_acts F r d at s reply acts) runs
   line_runs lines.Stat reply actor runs =
       taken_or_not F r d at lines.Stat reply s (λ is. cc) (λ admits acts. stat_acts F r d at s reply acts) runs
+  line_runs lines.Unique reply actor runs =
+      taken_or_not F r d at lines.Unique reply s (λ is. cc) (λ admits acts. unique_acts F r d at s reply acts) runs
   line_runs lines.Reopen reply actor runs = reopen_line F r d at s reply runs
 
 -- ---- lines, one after the other
@@ -163,6 +165,7 @@ asked_so P steps.ListNames given right = refl
 asked_so P (steps.GcStart percent) given right = refl
 asked_so P steps.GcStep given right = refl
 asked_so P steps.Stat given right = refl
+asked_so P steps.Unique given right = refl
 
 pub runs_by : (count : ℕ) (m : RunState Root) (stop : Option Stop) → SameStop count m stop → stop ≡ None → m ≡ Running
 runs_by count Running stop same none = refl

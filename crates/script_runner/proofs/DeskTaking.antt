@@ -77,6 +77,14 @@ module _ (F : Fitted) (r : RunnerState F.C) (d : Desk F.V F.R) (at : AtDesk F d 
       (Ok (answers.Stat h.files h.segments h.bytes h.used h.free)) acts.0.0 tt tt acts.0.1 refl refl
   stat_acts reply acts = absurd acts
 
+  pub unique_acts : (reply : ReplyValue) → Acts C state lines.Unique reply r s → Acted F r d at lines.Unique reply s
+  unique_acts (replies.Unique segments bytes) acts =
+      step_line F r d at s acts.1 lines.Unique (replies.Unique segments bytes) (λ ss e x. x) 0 steps.Unique
+      (Ok (answers.Unique segments bytes)) acts.0.0 tt tt acts.0.1 refl refl
+  unique_acts (replies.Refused refusal) acts =
+      step_line F r d at s acts.1 lines.Unique (replies.Refused refusal) (λ ss e x. x) 0 steps.Unique (Err refusal) acts.0.0 tt tt acts.0.1 refl refl
+  unique_acts reply acts = absurd acts
+
   -- ---- a name that is deleted
 
   module _ (name : List ℕ) (admits : Admits (lines.Delete name) r.sessions (state r.core)) where

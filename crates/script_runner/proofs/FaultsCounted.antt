@@ -43,6 +43,7 @@ module _ (old new : CoreState) where
   effect_faults (asked.GcStart percent) answer effect = effect.disk.faults_are
   effect_faults asked.GcStep answer effect = effect.faults_are
   effect_faults asked.Stat answer effect = effect.disk.faults_are
+  effect_faults asked.Unique answer effect = effect.disk.faults_are
 
   step_faults : (e : Event) (stop : Option Stop) → StepsOr stop e old new → CountsFault (ending blames e.answer) old.disk.faults new.disk.faults
   step_faults e None steps = effect_faults e.step e.answer steps.made.effect
@@ -184,6 +185,8 @@ module _ (C : Type 0) (state : C → CoreState) where
   acts_went lines.Sweep (replies.Collected freed copied) r s acts = swept_went (Ok (answers.Done freed copied)) r.core s.core acts.0
   acts_went lines.Sweep (replies.Refused refusal) r s acts = swept_went (Err refusal) r.core s.core acts.0
   acts_went lines.Stat (replies.Stat holdings) r s acts = step_went (state r.core) (state s.core) _ acts.0.1
+  acts_went lines.Unique (replies.Unique segments bytes) r s acts = step_went (state r.core) (state s.core) _ acts.0.1
+  acts_went lines.Unique (replies.Refused refusal) r s acts = step_went (state r.core) (state s.core) _ acts.0.1
   acts_went line reply r s acts = absurd acts
 
   abbrev disk_of : C → DiskView

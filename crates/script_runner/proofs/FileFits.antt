@@ -123,6 +123,7 @@ module _ (C : Type 0) (state : C → CoreState) (among : ByteSet) (distinct : Ha
     given_by (steps.GcStart percent) right step = (tt, tt, tt)
     given_by steps.GcStep right step = (tt, tt, tt)
     given_by steps.Stat right step = (tt, tt, tt)
+    given_by steps.Unique right step = (tt, tt, tt)
 
     module _ (n : FileMachine) (made : FileStep S f (state old) (state new)) where
       ran : (state new).stop ≡ None → (state old).stop ≡ None

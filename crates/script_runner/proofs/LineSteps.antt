@@ -135,6 +135,10 @@ module _ (C : Type 0) (state : C → CoreState) where
   acts lines.GcStep reply r s unswept is = absurd unswept
   acts lines.Sweep reply r s unswept is = absurd unswept
   acts lines.Stat (replies.Stat holdings) r s unswept is = does 0 0 asked.Stat (counted holdings) r.core s.core tt (omega arith) is.0
+  acts lines.Unique (replies.Unique segments bytes) r s unswept is =
+      single 0 r.core s.core (record { actor = 0; step = asked.Unique; answer = Ok (answers.Unique segments bytes); buf = is.0.0 }) tt (omega arith) is.0.1
+  acts lines.Unique (replies.Refused refusal) r s unswept is =
+      single 0 r.core s.core (record { actor = 0; step = asked.Unique; answer = Err refusal; buf = is.0.0 }) tt (omega arith) is.0.1
   acts line reply r s unswept is = absurd is
 
   or_not : (line : lines.LineValue) (reply : ReplyValue) (r s : RunnerState C) → IsNoSweep line → ActsOrNot C state line reply r s → Makes (commands_of_line line) r.core s.core

@@ -32,6 +32,7 @@ module _ (C : Type 0) (state : C → CoreState) where
       by_line lines.GcStep p x = x
       by_line lines.Sweep p x = x
       by_line lines.Stat p x = x
+      by_line lines.Unique p x = x
       by_line lines.Reopen p x = p
   plain_reply line (replies.Deleted q) r s plain acts ack = by_line line plain acts
     where
@@ -51,6 +52,7 @@ module _ (C : Type 0) (state : C → CoreState) where
       by_line lines.GcStep p x = x
       by_line lines.Sweep p x = x
       by_line lines.Stat p x = x
+      by_line lines.Unique p x = x
       by_line lines.Reopen p x = p
   plain_reply line reply r s plain acts ack = ack
 
@@ -70,6 +72,7 @@ module _ (C : Type 0) (state : C → CoreState) where
   runs_so lines.GcStep reply r s other so = so
   runs_so lines.Sweep reply r s other so = so
   runs_so lines.Stat reply r s other so = so
+  runs_so lines.Unique reply r s other so = so
   runs_so lines.Reopen reply r s other so = absurd (other refl)
 
   -- it was taken

@@ -194,6 +194,10 @@ counted h = answers.Stat h.files h.segments h.bytes h.used h.free
 abbrev pub Counts : (C : Type 0) → (C → CoreState) → Holdings → C → C → Type 0
 Counts C state holdings old new = DoesStep 0 asked.Stat (counted holdings) (state old) (state new)
 
+-- The keys of all trees are counted, or aren't; any actor would do.
+abbrev pub CountsKeys : (C : Type 0) → (C → CoreState) → Result Answer Refusal → C → C → Type 0
+CountsKeys C state answer old new = (buf : List ℕ) × StepOf 0 asked.Unique answer buf (state old) (state new)
+
 -- ---- names
 
 -- a name is deleted; any actor would do
@@ -299,6 +303,8 @@ Acts C state lines.GcStep (replies.Refused refusal) r s = Core C (Collects C sta
 Acts C state lines.Sweep (replies.Collected freed copied) r s = Core C (Sweeps C state (Ok (answers.Done freed copied))) r s
 Acts C state lines.Sweep (replies.Refused refusal) r s = Core C (Sweeps C state (Err refusal)) r s
 Acts C state lines.Stat (replies.Stat holdings) r s = Core C (Counts C state holdings) r s
+Acts C state lines.Unique (replies.Unique segments bytes) r s = Core C (CountsKeys C state (Ok (answers.Unique segments bytes))) r s
+Acts C state lines.Unique (replies.Refused refusal) r s = Core C (CountsKeys C state (Err refusal)) r s
 Acts C state line reply r s = ⊥
 
 abbrev pub ActsReopen : (C : Type 0) → (C → CoreState) → ReplyValue → RunnerState C → RunnerState C → Type 0

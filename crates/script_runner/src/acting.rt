@@ -14,7 +14,7 @@ use crate::collecting::{begin_collection, step_collection, sweep};
 use crate::giving::{abort, begin, commit, finish, push, turn};
 use crate::naming::{delete, list};
 use crate::sessions::Sessions;
-use crate::taking::{count, end_read, open_read, read_next};
+use crate::taking::{count, count_keys, end_read, open_read, read_next};
 use actor_parts::{Actor, SegBuf};
 use refusals::Refusal;
 use script_lines::{Line, Reply, print_reply};
@@ -85,6 +85,7 @@ fn act<C: HasState>(
         Line::Stat => Ok(Reply::Stat {
             holdings: count(core, buf),
         }),
+        Line::Unique => count_keys(core, buf),
         Line::Commit(_, _) | Line::Next(_) | Line::Delete(_) | Line::List | Line::Reopen => {
             unreachable!()
         }

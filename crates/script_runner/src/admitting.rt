@@ -31,6 +31,7 @@ fn actor_of(line: &Line<'_>) -> Option<Actor>
         | Line::Step
         | Line::Sweep
         | Line::Stat
+        | Line::Unique
         | Line::Reopen => None,
     }
 }

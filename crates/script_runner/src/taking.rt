@@ -1,11 +1,14 @@
 //! Lines by which an actor takes a file, and counts.
 ghost use Rattle.std.specs.Prelude.{◌≡◌, None};
+ghost use Rattle.script_lines.specs.Grammar as grammar;
 ghost use Rattle.store_core.specs.State.{IsRunning};
-ghost use Rattle.script_runner.specs.Acts.{Counts, Drops, GivesNext, Opens};
+ghost use Rattle.script_runner.specs.Acts.{Acts, Counts, Drops, GivesNext, Opens};
+ghost use Rattle.script_runner.specs.Runner.{answer_of, runner_of};
+ghost use Rattle.script_runner.specs.Sessions.{Sessions};
 
 use actor_parts::{Actor, Answer, SegBuf, Step};
 use refusals::Refusal;
-use script_lines::Holdings;
+use script_lines::{Holdings, Reply};
 use store_core::HasState;
 
 /// Begins to take the file of a name, and says how many bytes are to come.
@@ -91,6 +94,23 @@ pub(crate) fn count<C: HasState>(core: &mut C, buf: &mut SegBuf) -> Holdings
             used,
             free,
         },
+        _ => unreachable!(),
+    }
+}
+
+/// Counts the keys of the trees of all names, each once, and gives the reply.
+pub(crate) fn count_keys<C: HasState>(
+    core: &mut C,
+    buf: &mut SegBuf,
+) -> Result<Reply<'static>, Refusal>
+    requires running { IsRunning (C.state core.old) }
+    requires runs { (C.state core.old).stop ≡ None }
+    ensures counts { (sessions : Sessions) → Acts C C.state grammar.Unique (answer_of result)
+        (runner_of core.old sessions) (runner_of core.new sessions) }
+    ensures running { IsRunning (C.state core.new) }
+{
+    match core.make_step(first(), Step::Unique, buf)? {
+        Answer::Unique { segments, bytes } => Ok(Reply::Unique { segments, bytes }),
         _ => unreachable!(),
     }
 }

@@ -1,6 +1,5 @@
 -- What the names have is what the book makes of them.
 use Rattle.std.proofs.Common.{◌≡◌, ℕ, suc, List, [], ◌∷◌, ◌++◌, take, refl, sym, ap, ◌∙◌, subst, Option, Some, None, Result, Ok, Err}
-use Rattle.std.specs.List.{AllByRecursion}
 use Rattle.container_meta.specs.Segments.{Contents}
 use Rattle.refusals.specs.declared.refusal.Refusal.{Refusal}
 use Rattle.refusals.specs.declared.refusal.Refusal.TheVariants as refusals
@@ -8,10 +7,9 @@ use Rattle.store_machine.specs.Asked.{Asked}
 use Rattle.store_machine.specs.Asked as asked
 use Rattle.store_machine.specs.Done.{Done}
 use Rattle.store_machine.specs.Done as done
-use Rattle.store_machine.specs.Legal.{Answers, ByState, Does, Legal, Refuses, RefusesClaim, RefusesCommit, RefusesDelete, RefusesGcStep, RefusesOn, RefusesSeal}
+use Rattle.store_machine.specs.Legal.{Answers, ByState, Does, Legal, Refuses, RefusesClaim, RefusesCommit, RefusesDelete, RefusesGcStep, RefusesOn, RefusesSeal, RefusesUnique}
 use Rattle.store_machine.specs.Machine.{Found, Machine, RunState, Running, Stepped, Stopped, one_more}
 use Rattle.store_machine.specs.Offers.{AddsContainers}
-use Rattle.store_machine.specs.Runs.{Run}
 use Rattle.store_machine.specs.Values.{Values}
 use Rattle.shared_store.specs.Book.{BooksReplay, CountsFrom, IsNoOpening, Line, book_of, counted, line_by, replay, written}
 
@@ -55,6 +53,7 @@ module _ {V R : Type 0} (v : Values V R) where
   does a asked.GcStep (done.Did phase) m n goes = still m n (ap told goes.others)
   does a asked.GcStep (done.Collected freed copied) m n ends = still m n (ap told ends.others)
   does a asked.Stat (done.Counted files segments bytes used free) m n (counts, is) = same m n is
+  does a asked.Unique (done.Unique segments bytes) m n (counts, is) = same m n is
   does a step answer m n is = absurd is
 
   -- ---- refused
@@ -106,6 +105,14 @@ module _ {V R : Type 0} (v : Values V R) where
   gc_step (refusals.Damaged at why) m n (phase, (unknown, is)) = ap told is
   gc_step refusal m n is = absurd is
 
+  unique : (refusal : Refusal) (m n : M) → RefusesUnique v refusal m n → told n ≡ told m
+  unique refusals.Memory m n is = ap told is
+  unique refusals.DiskRead m n is = ap told is
+  unique (refusals.Corrupt slot offset count want got) m n (unknown, is) = ap told is
+  unique (refusals.Missing key) m n (unknown, is) = ap told is
+  unique (refusals.Damaged at why) m n (unknown, is) = ap told is
+  unique refusal m n is = absurd is
+
   on : (a : ℕ) (step : Asked V) (refusal : Refusal) (m n : M) → RefusesOn v a step refusal m n → told n ≡ told m
   on a (asked.Claim seg) refusal m n is = claim a seg refusal m n is
   on a (asked.Seal offered) refusal m n is = seal a offered refusal m n is
@@ -121,6 +128,7 @@ module _ {V R : Type 0} (v : Values V R) where
   on a (asked.GcStart percent) (refusals.Damaged at why) m n (none, (unknown, is)) = ap told is
   on a (asked.GcStart percent) (refusals.Collecting phase) m n (runs, is) = ap told is
   on a asked.GcStep refusal m n is = gc_step refusal m n is
+  on a asked.Unique refusal m n is = unique refusal m n is
   on a step refusal m n is = absurd is
 
   refused : (a : ℕ) (step : Asked V) (refusal : Refusal) (m n : M) → Refuses v a step refusal m n → told n ≡ told m
@@ -165,6 +173,7 @@ module _ {V R : Type 0} (v : Values V R) where
       by (asked.GcStart percent) one legal = by_state m.state s.actor (asked.GcStart percent) s.answer m n legal
       by asked.GcStep one legal = by_state m.state s.actor asked.GcStep s.answer m n legal
       by asked.Stat one legal = by_state m.state s.actor asked.Stat s.answer m n legal
+      by asked.Unique one legal = by_state m.state s.actor asked.Unique s.answer m n legal
 
   -- ---- a run
 

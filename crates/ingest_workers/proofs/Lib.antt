@@ -1,6 +1,11 @@
 pub mod Ended
 pub mod Feeding
 pub mod Ingesting
+pub mod Leaving
+pub mod Names
+pub mod NamesAfter
+pub mod Owed
 pub mod Owned
 pub mod Pieces
+pub mod Rightly
 pub mod Seats

@@ -42,6 +42,9 @@ fn done_text(alloc: Global, answer: &Answer, buf: &[u8]) -> Result<String, Alloc
             free,
             ..
         } => format!(in alloc; "stat files {files} segments {segments} used {used} free {free}"),
+        Answer::Unique { segments, bytes } => {
+            format!(in alloc; "unique segments {segments} bytes {bytes}")
+        }
         Answer::Started { snapshot } => format!(in alloc; "collecting {snapshot}"),
         Answer::Did { phase } => {
             let word = std::str::from_utf8(phase_word(phase)).unwrap_or("?");

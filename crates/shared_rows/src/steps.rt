@@ -96,6 +96,7 @@ fn plain(word: &str) -> Result<Step<'static>, Fault>
         "list" => Ok(Step::List),
         "step" => Ok(Step::GcStep),
         "stat" => Ok(Step::Stat),
+        "unique" => Ok(Step::Unique),
         _ => Err(Fault::Line),
     }
 }

@@ -42,6 +42,9 @@ fn done_text(alloc: Global, answer: &Answer, buf: &[u8]) -> Result<String, Alloc
         } => format!(in alloc;
             "stat files {files} segments {segments} bytes {bytes} used {used} free {free}"
         ),
+        Answer::Unique { segments, bytes } => {
+            format!(in alloc; "unique segments {segments} bytes {bytes}")
+        }
         Answer::Started { snapshot } => format!(in alloc; "collecting {snapshot}"),
         Answer::Did { phase } => did_text(alloc, phase),
         Answer::Done { freed, copied } => {

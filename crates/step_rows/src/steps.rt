@@ -43,6 +43,7 @@ fn plain<D: Disk>(
         "next" => Step::ReadNext,
         "drop" => Step::EndRead,
         "stat" => Step::Stat,
+        "unique" => Step::Unique,
         "list" => Step::List,
         "step" => Step::GcStep,
         "kind" => return Ok(core.kind(alloc, actor)?),

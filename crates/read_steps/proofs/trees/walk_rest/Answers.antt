@@ -44,9 +44,9 @@ loop-more-preserved g c =
           (subst (λ (more : Bool). Walks M R c.args.index.now (view c.args.disk.now) (view c.loop-more.disk) start
           (walk_state M (ahead_of more c.loop-more.cursor) c.loop-more.passed c.loop-more.notes)) c.loop-more-test.true so_far.walks)
           c.in_ok-more.ensures.step c.in_ok-more.ensures.end;
-      index_is = c.walk_next.ensures.index ∙ so_far.index_is;
-      size = c.walk_next.ensures.size ∙ so_far.size;
-      stays = λ p takes. c.walk_next.ensures.stays p (so_far.stays p takes);
+      index_is = c.walk_next.ensures.rest.0 ∙ so_far.index_is;
+      size = c.walk_next.ensures.rest.1 ∙ so_far.size;
+      stays = λ p takes. c.walk_next.ensures.rest.2 p (so_far.stays p takes);
       reads = reads_on Done (view c.args.disk.now) (view c.loop-more.disk) (view c.walk_next.new.disk) so_far.reads c.in_ok-more.ensures.reads;
       held = λ counts held image indexed is.
           c.in_ok-more.ensures.held counts held image

@@ -9,7 +9,7 @@ use refusals::Refusal;
 /// How often each refusal was answered, by its number, and how often the end of a file. Each count stands still at 2^64 - 1.
 #[derive(Clone, Copy)]
 pub struct Answered {
-    pub refused: [u64; 23],
+    pub refused: [u64; 24],
     pub ended: u64,
 }
 
@@ -20,7 +20,7 @@ impl Answered {
         ensures ended { result.ended ≡ 0 }
     {
         Answered {
-            refused: [0; 23],
+            refused: [0; 24],
             ended: 0,
         }
     }
@@ -38,7 +38,7 @@ impl Answered {
 // The number of a refusal.
 fn number(refusal: &Refusal) -> usize
     ensures value { result ≡ number_of refusal.now }
-    ensures below { result < 23 }
+    ensures below { result < 24 }
 {
     match refusal {
         Refusal::Memory => 1,
@@ -63,11 +63,12 @@ fn number(refusal: &Refusal) -> usize
         Refusal::AlreadyStore => 20,
         Refusal::WrongSize { .. } => 21,
         Refusal::NoActor => 22,
+        Refusal::NotEmpty { .. } => 23,
     }
 }
 
 // Counts an answer, where it is a refusal.
-fn count_refusal(counts: &mut [u64; 23], answer: &Result<Answer, Refusal>)
+fn count_refusal(counts: &mut [u64; 24], answer: &Result<Answer, Refusal>)
     ensures { (n : ℕ) → Counts (is_refused_by n answer.now) (get_or counts.old n 0) (get_or counts.new n 0) }
 {
     if let Err(refusal) = answer {

@@ -1,7 +1,7 @@
 -- The numbers of the refusals (docs/FORMAT.md, 'Refusals').
 use Rattle.std.specs.Prelude.{ℕ}
 use Rattle.refusals.specs.declared.refusal.Refusal.{Refusal}
-use Rattle.refusals.specs.declared.refusal.Refusal.TheVariants.{Memory, NoFile, BadName, TooMany, TooLong, Full, Clash, WrongPart, Collecting, NotCollecting, DiskRead, DiskWrite, Stopped, Corrupt, Missing, Numbers, NotAStore, Version, Damaged, Unpinned, AlreadyStore, WrongSize, NoActor}
+use Rattle.refusals.specs.declared.refusal.Refusal.TheVariants.{Memory, NoFile, BadName, TooMany, TooLong, Full, Clash, WrongPart, Collecting, NotCollecting, DiskRead, DiskWrite, Stopped, Corrupt, Missing, Numbers, NotAStore, Version, Damaged, Unpinned, AlreadyStore, WrongSize, NoActor, NotEmpty}
 
 abbrev pub number_of : Refusal → ℕ
 number_of Memory = 1
@@ -27,3 +27,4 @@ number_of (Unpinned key) = 19
 number_of AlreadyStore = 20
 number_of (WrongSize want got) = 21
 number_of NoActor = 22
+number_of (NotEmpty files) = 23

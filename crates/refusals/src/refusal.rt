@@ -130,6 +130,11 @@ pub enum Refusal {
     },
     /// 22: all numbers of actors were given out to passes of a shared store.
     NoActor,
+    /// 23: generated files are stored only where no name has a file.
+    NotEmpty {
+        /// How many names have one.
+        files: u64,
+    },
 }
 
 impl From<AllocError> for Refusal {

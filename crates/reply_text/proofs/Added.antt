@@ -8,13 +8,19 @@ use Rattle.hex.specs.Hex.{encode_lower}
 use Rattle.disk_format.specs.Cells.{Root}
 use Rattle.namespace.specs.declared.listing.ListedName.{ListedName}
 use Rattle.namespace.specs.Listing.{listed_value}
-use Rattle.reply_text.specs.Text.{named_line, file_line}
+use Rattle.reply_text.specs.Text.{named_line, file_line, unique_line}
 
 -- a word, a name and a root, added piece by piece
 pub named_added : (text word name length_text level_text digits : List ℕ) (root : Root) → length_text ≡ decimal root.length → level_text ≡ decimal root.level →
     digits ≡ encode_lower root.digest
     → ((((((((text ++ word) ++ name) ++ codes " ") ++ length_text) ++ codes " ") ++ level_text) ++ codes " ") ++ digits) ++ codes "\n" ≡ text ++ named_line word name root
 named_added text word name length_text level_text digits root is_length is_level is_digest = rw (is_length, is_level, is_digest) (simp append_assoc)
+
+-- what trees have, added piece by piece
+pub unique_added : (text segments_text : List ℕ) (segments bytes : ℕ) → segments_text ≡ decimal segments
+    → ((text ++ codes "unique segments ") ++ segments_text) ++ (codes " bytes " ++ decimal bytes ++ codes "\n") ≡ text ++ unique_line segments bytes
+unfolding unique_line
+unique_added text segments_text segments bytes is_segments = rw is_segments (simp append_assoc)
 
 -- the lines of one more name
 pub files_more : (text : List ℕ) (names : List ListedName) (i : ℕ) (d : ListedName) → i < length names

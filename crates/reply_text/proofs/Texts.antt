@@ -3,7 +3,7 @@ use Rattle.std.proofs.Common.{◌≡◌, ◌≤◌, ℕ, false, List, [], ◌∷
 use Rattle.std.proofs.lemmas.List.{append-nil}
 use Rattle.hex.specs.Hex.{encode_lower}
 use Rattle.dd_io.specs.Flow.{SinkView, Sends}
-use Rattle.refusals.specs.declared.refusal.Refusal.TheVariants.{Clash, WrongPart, Corrupt, Missing, NotAStore, Version, Unpinned, WrongSize}
+use Rattle.refusals.specs.declared.refusal.Refusal.TheVariants.{Clash, WrongPart, Corrupt, Missing, NotAStore, NotEmpty, Version, Unpinned, WrongSize}
 use Rattle.refusals.specs.declared.refusal.Refusal.{Refusal}
 use Rattle.refusals.specs.declared.refusal.Difference.TheVariants.{Byte}
 use Rattle.refusals.specs.declared.refusal.PartKind.{PartKind}
@@ -64,6 +64,13 @@ pub version_text : (n : ℕ) (n_text : List ℕ) → n_text ≡ decimal n
     ≡ fault_line (Refused (Version n))
 unfolding fault_line ending_text refusal_text
 version_text n n_text is_n = rw is_n (simp append_assoc)
+
+-- the line of `NotEmpty`, of its pieces
+pub not_empty_text : (n : ℕ) (n_text : List ℕ) → n_text ≡ decimal n
+    → codes "fault 23 notempty " ++ (n_text ++ (codes "\n" ++ []))
+    ≡ fault_line (Refused (NotEmpty n))
+unfolding fault_line ending_text refusal_text
+not_empty_text n n_text is_n = rw is_n (simp append_assoc)
 
 -- the line of `Unpinned`, of its pieces
 pub unpinned_text : (key key_digits : List ℕ) → key_digits ≡ encode_lower key

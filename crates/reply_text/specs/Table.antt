@@ -1,7 +1,7 @@
 -- The exit statuses (docs/FORMAT.md, 'Commands' and 'Refusals').
 use Rattle.std.specs.Prelude.{ℕ}
 use Rattle.refusals.specs.declared.refusal.Refusal.{Refusal}
-use Rattle.refusals.specs.declared.refusal.Refusal.TheVariants.{Memory, NoFile, BadName, TooMany, TooLong, Full, Clash, WrongPart, Collecting, NotCollecting, DiskRead, DiskWrite, Stopped, Corrupt, Missing, Numbers, NotAStore, Version, Damaged, Unpinned, AlreadyStore, WrongSize, NoActor}
+use Rattle.refusals.specs.declared.refusal.Refusal.TheVariants.{Memory, NoFile, BadName, TooMany, TooLong, Full, Clash, WrongPart, Collecting, NotCollecting, DiskRead, DiskWrite, Stopped, Corrupt, Missing, Numbers, NotAStore, Version, Damaged, Unpinned, AlreadyStore, WrongSize, NoActor, NotEmpty}
 use Rattle.reply_text.specs.declared.ending.Ending.{Ending}
 use Rattle.reply_text.specs.declared.ending.Ending.TheVariants.{Words, Source, Sink, Line, Script, Refused}
 
@@ -30,6 +30,7 @@ status_of_refusal (Unpinned key) = 3
 status_of_refusal AlreadyStore = 3
 status_of_refusal (WrongSize want got) = 3
 status_of_refusal NoActor = 3
+status_of_refusal (NotEmpty files) = 3
 
 -- the exit status of a command that was not done
 abbrev pub status_of : Ending → ℕ

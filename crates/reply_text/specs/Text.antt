@@ -13,7 +13,7 @@ use Rattle.refusals.specs.declared.refusal.Phase.TheVariants.{Mark, Filter, Sele
 use Rattle.disk_format.specs.declared.why.Why.{Why}
 use Rattle.disk_format.specs.declared.why.Why.TheVariants.{Digest, Field}
 use Rattle.refusals.specs.declared.refusal.Refusal.{Refusal}
-use Rattle.refusals.specs.declared.refusal.Refusal.TheVariants.{Memory, NoFile, BadName, TooMany, TooLong, Full, Clash, WrongPart, Collecting, NotCollecting, DiskRead, DiskWrite, Stopped, Corrupt, Missing, Numbers, NotAStore, Version, Damaged, Unpinned, AlreadyStore, WrongSize, NoActor}
+use Rattle.refusals.specs.declared.refusal.Refusal.TheVariants.{Memory, NoFile, BadName, TooMany, TooLong, Full, Clash, WrongPart, Collecting, NotCollecting, DiskRead, DiskWrite, Stopped, Corrupt, Missing, Numbers, NotAStore, Version, Damaged, Unpinned, AlreadyStore, WrongSize, NoActor, NotEmpty}
 use Rattle.inspection.specs.declared.damage.Damage.{Damage}
 use Rattle.inspection.specs.declared.damage.Damage.TheVariants as found
 use Rattle.reply_text.specs.declared.ending.Ending.{Ending}
@@ -52,6 +52,10 @@ listing_text files = flat_map file_line files ++ listed_line (length files)
 -- `unique segments SEGMENTS bytes BYTES`
 unfoldable pub unique_line : ℕ → ℕ → List ℕ
 unique_line segments bytes = codes "unique segments " ++ decimal segments ++ codes " bytes " ++ decimal bytes ++ codes "\n"
+
+-- a line for each name, in their order, and then what their trees have
+unfoldable pub summary_text : List NamedRoot → (segments bytes : ℕ) → List ℕ
+summary_text files segments bytes = flat_map file_line files ++ unique_line segments bytes
 
 -- how two segments of one key differ
 unfoldable pub difference_text : Difference → List ℕ
@@ -108,6 +112,7 @@ refusal_text (Unpinned key) = codes "19 unpinned " ++ encode_lower key
 refusal_text AlreadyStore = codes "20 alreadystore"
 refusal_text (WrongSize want got) = codes "21 wrongsize " ++ decimal want ++ codes " " ++ decimal got
 refusal_text NoActor = codes "22 noactor"
+refusal_text (NotEmpty files) = codes "23 notempty " ++ decimal files
 
 -- how a command that was not done ended
 unfoldable pub ending_text : Ending → List ℕ

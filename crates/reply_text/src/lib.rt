@@ -12,4 +12,6 @@ pub use checking::{write_checked, write_damage};
 pub use ending::Ending;
 pub use notes::{phase_word, refused_line, write_fault};
 pub use status::status_of;
-pub use text::{deleted_line, formatted_line, listing_text, stored_line, unique_line};
+pub use text::{
+    deleted_line, formatted_line, listing_text, stored_line, summary_text, unique_line,
+};

@@ -6,7 +6,7 @@ ghost use Rattle.refusals.specs.declared.refusal.Difference.TheVariants.{Length,
 ghost use Rattle.disk_format.specs.declared.why.Why.TheVariants.{Digest, Field};
 ghost use Rattle.reply_text.specs.declared.ending.Ending.TheVariants.{Line, Refused};
 ghost use Rattle.refusals.specs.declared.refusal.Refusal.TheVariants.{Full, Clash, WrongPart, Collecting, Stopped, Corrupt, Missing};
-ghost use Rattle.refusals.specs.declared.refusal.Refusal.TheVariants.{NotAStore, Version, Damaged, Unpinned, WrongSize};
+ghost use Rattle.refusals.specs.declared.refusal.Refusal.TheVariants.{NotAStore, Version, Damaged, NotEmpty, Unpinned, WrongSize};
 ghost use Rattle.reply_text.specs.Text.{fault_line, refused_line, part_text, phase_text};
 
 use crate::digits::put_digits;
@@ -109,6 +109,7 @@ fn write_refusal<Q: Sink>(notes: &mut Q, refusal: &Refusal) -> Result<(), SinkFa
         Refusal::AlreadyStore => write_pieces(notes, &[b"fault 20 alreadystore\n"]),
         Refusal::WrongSize { want, got } => write_wrong_size(notes, *want, *got),
         Refusal::NoActor => write_pieces(notes, &[b"fault 22 noactor\n"]),
+        Refusal::NotEmpty { files } => write_not_empty(notes, *files),
     }
 }
 
@@ -246,6 +247,21 @@ fn write_stopped<Q: Sink>(notes: &mut Q, at: u64) -> Result<(), SinkFault>
     write_pieces(
         notes,
         &[b"fault 12 stopped ", at_text.format(at).as_bytes(), b"\n"],
+    )
+}
+
+#[tactic(auto, unfolding(crate::specs::Text::fault_line, crate::specs::Text::ending_text, crate::specs::Text::refusal_text))]
+fn write_not_empty<Q: Sink>(notes: &mut Q, files: u64) -> Result<(), SinkFault>
+    ensures { Sends (fault_line (Refused (NotEmpty files))) result (Q.view notes.old) (Q.view notes.new) }
+{
+    let mut files_text = Buffer::new();
+    write_pieces(
+        notes,
+        &[
+            b"fault 23 notempty ",
+            files_text.format(files).as_bytes(),
+            b"\n",
+        ],
     )
 }
 

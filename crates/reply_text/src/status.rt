@@ -45,5 +45,6 @@ fn status_of_refusal(refusal: &Refusal) -> u8
         Refusal::AlreadyStore => 3,
         Refusal::WrongSize { .. } => 3,
         Refusal::NoActor => 3,
+        Refusal::NotEmpty { .. } => 3,
     }
 }

@@ -2,7 +2,7 @@
 ghost use Rattle.std.specs.Prelude.{◌≡◌, ◌++◌, codes, decimal, map, IfOk, OnOk};
 ghost use Rattle.std.specs.List.{flat_map};
 ghost use Rattle.namespace.specs.Listing.{listed_value};
-ghost use Rattle.reply_text.specs.Text.{formatted_line, stored_line, deleted_line, named_line, file_line, listed_line, listing_text, unique_line};
+ghost use Rattle.reply_text.specs.Text.{formatted_line, stored_line, deleted_line, named_line, file_line, listed_line, listing_text, summary_text, unique_line};
 
 use crate::digits::put_digits;
 use itoa::Buffer;
@@ -55,15 +55,39 @@ pub fn listing_text(alloc: Global, files: &Listing) -> Result<Vec<u8>, AllocErro
 
 /// What the trees of all names have, each key counted once: the reply to a line `unique` of a script. It fails for want of
 /// memory alone.
-#[tactic(auto, unfolding(crate::specs::Text::unique_line))]
 pub fn unique_line(alloc: Global, segments: u64, bytes: u64) -> Result<Vec<u8>, AllocError>
     ensures { IfOk result (λ line. line.items ≡ unique_line segments bytes) }
 {
-    let mut line = Vec::from_slice(alloc, b"unique segments ")?;
-    let mut number = Buffer::new();
-    line.extend_from_slice(number.format(segments).as_bytes())?;
-    add_number_line(&mut line, b" bytes ", bytes)?;
+    let mut line = Vec::new(alloc);
+    add_unique_line(&mut line, segments, bytes)?;
     Ok(line)
+}
+
+/// What `work` prints: a line for each name, in the order of their bytes, and what the trees of all names have, each key counted
+/// once. It fails for want of memory alone.
+#[tactic(auto, unfolding(crate::specs::Text::summary_text))]
+pub fn summary_text(
+    alloc: Global,
+    files: &Listing,
+    segments: u64,
+    bytes: u64,
+) -> Result<Vec<u8>, AllocError>
+    ensures { IfOk result (λ text. text.items ≡ summary_text files.now segments bytes) }
+{
+    let mut text = Vec::new(alloc);
+    add_file_lines(&mut text, files.names())?;
+    add_unique_line(&mut text, segments, bytes)?;
+    Ok(text)
+}
+
+fn add_unique_line(text: &mut Vec<u8>, segments: u64, bytes: u64) -> Result<(), AllocError>
+    ensures { OnOk result (text.new.items ≡ text.old.items ++ unique_line segments bytes) }
+{
+    let mut number = Buffer::new();
+    text.extend_from_slice(b"unique segments ")?;
+    text.extend_from_slice(number.format(segments).as_bytes())?;
+    add_number_line(text, b" bytes ", bytes)?;
+    Ok(())
 }
 
 fn add_file_lines(text: &mut Vec<u8>, names: &[ListedName]) -> Result<(), AllocError>

@@ -23,7 +23,7 @@ use Rattle.refusals.specs.declared.refusal.Refusal.TheVariants as refusals
 use Rattle.container_meta.specs.declared.place.Place.{Place as PlaceValue}
 use Rattle.segment_index.specs.Places.{KnownMap}
 use Rattle.store_model.specs.Slots.{Copy as KeyCopy}
-use Rattle.store_machine.specs.Needs.{HasLength}
+use Rattle.store_machine.specs.Needs.{HasLength, IsKept}
 use Rattle.store_core.specs.Core.{KeepsTables, IsAtOther}
 use Rattle.actor_parts.specs.StepValue as steps
 use Rattle.ingest_steps.specs.Naming as naming
@@ -37,7 +37,7 @@ use Rattle.read_steps.specs.Walking as walking
 use Rattle.actor_parts.specs.declared.step.Answer.TheVariants as answers
 use Rattle.store_machine.specs.Asked as asked
 use Rattle.store_machine.specs.Done.{Done}
-use Rattle.store_machine.specs.Legal.{Keeps, listing, counted as counted_of, HasName, HasRoom, IsKept, MayCommit, HasNumbers, IsIndexed, LacksNumbers, RefusesRead, taken_by}
+use Rattle.store_machine.specs.Legal.{Keeps, listing, counted as counted_of, HasName, HasRoom, MayCommit, HasNumbers, IsIndexed, LacksNumbers, RefusesRead, taken_by}
 use Rattle.std.proofs.lemmas.List.{set-get_or}
 use Rattle.store_machine.specs.Machine.{Collection, Part, Idle, Writing, kind_of, one_more}
 use Rattle.store_machine.specs.Values.{GivesLeaf, IsStuck, Opens, Walked}

@@ -13,49 +13,15 @@ use Rattle.store_state.specs.Refused.{blames}
 use Rattle.recovery.specs.Room.{RoomMade}
 use Rattle.script_runner.specs.Acts.{Acts}
 use Rattle.script_runner.specs.AnyDisk.{LinesGoOn, tells_fault}
+use Rattle.session_turns.proofs.StepFaults.{Went, step_went, went_on}
 use Rattle.session_turns.specs.Turns.{session_at}
-
--- The same disk, later, whose count of faults tells how calls ended.
-pub record Went (by : Ending) (old new : DiskView) : Type 0 where
-  pub later : IsLater old new
-  pub faults : CountsFault by old.faults new.faults
-
-pub went_on : (by : Ending) (old mid new : DiskView) → Went Done old mid → Went by mid new → Went by old new
-went_on by old mid new first second = record {
-  later = later_on old mid new first.later second.later;
-  faults = subst (λ (n : ℕ). CountsFault by n new.faults) first.faults second.faults;
-}
 
 -- ---- steps
 
 module _ (old new : CoreState) where
-  effect_faults : (step : StepValue) (answer : Result Answer Refusal) → Effect step answer old new → CountsFault (ending blames answer) old.disk.faults new.disk.faults
-  effect_faults asked.Begin answer effect = effect.disk.faults_are
-  effect_faults (asked.Claim seg) answer effect = effect.disk.faults_are
-  effect_faults (asked.Seal filled) answer effect = effect.disk.faults_are
-  effect_faults (asked.Commit name root) answer effect = effect.disk.faults_are
-  effect_faults asked.Abort answer effect = effect.disk.faults_are
-  effect_faults (asked.OpenRead name) answer effect = effect.disk.faults_are
-  effect_faults asked.ReadNext answer effect = effect.disk.faults_are
-  effect_faults asked.EndRead answer effect = effect.disk.faults_are
-  effect_faults (asked.Delete name) answer effect = effect.disk.faults_are
-  effect_faults asked.ListNames answer effect = effect.disk.faults_are
-  effect_faults (asked.GcStart percent) answer effect = effect.disk.faults_are
-  effect_faults asked.GcStep answer effect = effect.faults_are
-  effect_faults asked.Stat answer effect = effect.disk.faults_are
-  effect_faults asked.Unique answer effect = effect.disk.faults_are
-
-  step_faults : (e : Event) (stop : Option Stop) → StepsOr stop e old new → CountsFault (ending blames e.answer) old.disk.faults new.disk.faults
-  step_faults e None steps = effect_faults e.step e.answer steps.made.effect
-  step_faults e (Some stop) steps =
-      subst (λ (answer : Result Answer Refusal). CountsFault (ending blames answer) old.disk.faults new.disk.faults) (sym steps.answer_is) steps.same.disk.faults_are
-
-  pub step_went : (e : Event) → CoreStep old e new → Went (ending blames e.answer) old.disk new.disk
-  step_went e made = record { later = step_later old new e old.stop made; faults = step_faults e old.stop made }
-
   asks_went : (actor : ℕ) (due : Due) (s : SessionState) (answer : Result Answer Refusal) → Asks actor due s answer old new → Went (ending blames answer) old.disk new.disk
-  asks_went actor Claim s answer asks = step_went _ asks.3
-  asks_went actor (Seal kind) s answer asks = step_went _ asks.3
+  asks_went actor Claim s answer asks = step_went old new _ asks.3
+  asks_went actor (Seal kind) s answer asks = step_went old new _ asks.3
   asks_went actor Nothing s answer asks = absurd asks
 
 -- ---- lines

@@ -7,6 +7,7 @@ pub mod KindsFollow
 mod Prelude
 pub mod Results
 pub mod RightRoot
+pub mod StepFaults
 pub mod TurnHolds
 pub mod TurnRuns
 pub mod WritingStays

@@ -64,7 +64,7 @@ impl<C: HasState> StoreCalls for Solo<C> {
 
     ghost asks = { λ old step answer buf new. CoreStep (C.state old.0.0)
         (record { actor = old.0.1; step = step; answer = answer; buf = buf })
-        (C.state new.0.0) };
+        (C.state new.0.0) × (new.0.1 ≡ old.0.1) };
 
     fn ask(&mut self, step: Step<'_>, buf: &mut SegBuf) -> Result<Answer, Refusal> {
         an_answer_fits_its_step::<C>();

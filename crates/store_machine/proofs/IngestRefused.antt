@@ -14,8 +14,8 @@ use Rattle.script_lines.specs.ReplyValue as replies
 use Rattle.store_model.specs.Trees.{root_of}
 use Rattle.store_machine.specs.Asked as asked
 use Rattle.store_machine.specs.Ingests.{AsksName, HasSegment, IngestRefusal, IngestsByMap, IngestsClash, IsBroken, IsSealFor}
-use Rattle.store_machine.specs.Legal.{IsFirstClash, IsKept}
-use Rattle.store_machine.specs.Needs.{IsClash}
+use Rattle.store_machine.specs.Legal.{IsFirstClash}
+use Rattle.store_machine.specs.Needs.{IsClash, IsKept}
 use Rattle.store_machine.specs.Offers.{first_unkept_in, sealed_in}
 use Rattle.store_machine.specs.Twins.{HasTwins, PiecesAreTwins}
 use Rattle.store_machine.specs.Storing.{AddsOnce, AsksPieces, HoldsFile, LacksPiece, MayCome, OfWhole}

@@ -21,7 +21,7 @@ use Rattle.ingest_session.proofs.Facts.{children_come_first, open_nodes_have_chi
 use Rattle.ingest_session.proofs.KeptPieces.{data_piece, kept_pieces, node_piece}
 use Rattle.ingest_session.proofs.SealsSome.{offer_kinds}
 use Rattle.ingest_session.proofs.Waiting.{claimed_turn, on_and_off, session_of}
-use Rattle.store_machine.specs.Legal as legal
+use Rattle.store_machine.specs.Needs as needs
 use Rattle.store_machine.specs.Offers.{AllSegments, first_unkept_in}
 use Rattle.store_machine.specs.Twins.{IsOfGiven}
 use Rattle.store_machine.proofs.OfOneKind.{each_of}
@@ -199,7 +199,7 @@ module _ (s : SessionState) (h : History) (has : HasHistory s h) where
 
     -- ---- the root that a name is to have
 
-    pub root_twins : s.ended ≡ true → due_in s ≡ Nothing → ¬ (legal.IsKept pins (root_of h.given)) → Twins (root_key (root_of h.given))
+    pub root_twins : s.ended ≡ true → due_in s ≡ Nothing → ¬ (needs.IsKept pins (root_of h.given)) → Twins (root_key (root_of h.given))
     root_twins ended due unkept =
         let few = (bytes_are_counted s h has).1 in
         elim (root_piece h.given few) [

@@ -18,7 +18,7 @@ use Rattle.ingest_session.proofs.KeptPieces.{held_kept, item_in, item_is, kept_a
 use Rattle.ingest_session.proofs.Members.{all_of}
 use Rattle.ingest_session.proofs.SealsSome.{offer_kinds}
 use Rattle.ingest_session.proofs.Waiting.{session_of}
-use Rattle.store_machine.specs.Legal as legal
+use Rattle.store_machine.specs.Needs as needs
 use Rattle.store_machine.specs.Offers.{AllSegments, first_unkept_in}
 use Rattle.store_machine.proofs.OfOneKind.{AreOf, all_taken, each_of, one_of_all}
 use Rattle.store_machine.proofs.Lacking.{claim_twins, root_twins, seal_twins}
@@ -73,7 +73,7 @@ module _ (s : SessionState) (h : History) (has : HasHistory s h) (pins : PinMap)
   pub seal_lacks : (kind : Kind) (key : List ℕ) → first_unkept_in (offered_in s kind) pins ≡ Some key → Twins key
   seal_lacks kind key unpinned = seal_twins s h has pins kept_pinned kind key unpinned
 
-  pub root_lacks : s.ended ≡ true → due_in s ≡ Nothing → ¬ (legal.IsKept pins (root_of h.given)) → Twins (root_key (root_of h.given))
+  pub root_lacks : s.ended ≡ true → due_in s ≡ Nothing → ¬ (needs.IsKept pins (root_of h.given)) → Twins (root_key (root_of h.given))
   root_lacks ended due unkept = root_twins s h has pins kept_pinned ended due unkept
 
   -- ---- after an answer

@@ -10,7 +10,7 @@ use Rattle.merkle_file.proofs.RootLaws.{roots_are_right}
 use Rattle.merkle_file.proofs.TreeLaws.{leaves_are_segments}
 use Rattle.store_model.specs.Pieces as pieces
 use Rattle.store_model.specs.Trees.{file_tree, root_of}
-use Rattle.store_machine.specs.Legal.{empty_root}
+use Rattle.store_machine.specs.Needs.{empty_root}
 use Rattle.ingest_session.proofs.Members.{in_right, one_of}
 
 -- what is said of the segment of a root

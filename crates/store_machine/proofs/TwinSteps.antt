@@ -10,7 +10,7 @@ use Rattle.refusals.specs.declared.refusal.Refusal.TheVariants as refusals
 use Rattle.store_model.specs.Trees.{root_of}
 use Rattle.store_machine.specs.Asked as asked
 use Rattle.store_machine.specs.Done as done
-use Rattle.store_machine.specs.Legal.{IsKept}
+use Rattle.store_machine.specs.Needs.{IsKept}
 use Rattle.store_machine.specs.Offers.{AddsContainers, first_unkept_in}
 use Rattle.store_machine.proofs.Added.{seals_few}
 use Rattle.store_machine.proofs.Pinned.{Pinned, absent_pinned, claim_lacks, held_pinned, root_lacks, same_told, seal_lacks, sealed_pinned, told_of}

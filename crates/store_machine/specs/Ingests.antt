@@ -25,8 +25,8 @@ use Rattle.store_machine.specs.Asked as asked
 use Rattle.store_machine.specs.ByMap.{AfterOpening, FileMachine, Through}
 use Rattle.store_machine.specs.Collecting.{Makes}
 use Rattle.store_machine.specs.Commands.{AreLinesOf, EndsRefused, EndsWith, Ingest, IsDone, IsEnded, Lines, MayGoOn, Replied, desk, given_by, printed}
-use Rattle.store_machine.specs.Legal.{broken_by, HasRoom, IsKept, LacksNumbers, with_name}
-use Rattle.store_machine.specs.Needs.{IsClash}
+use Rattle.store_machine.specs.Legal.{broken_by, HasRoom, LacksNumbers, with_name}
+use Rattle.store_machine.specs.Needs.{IsClash, IsKept}
 use Rattle.store_machine.specs.Lines.{Desk, IsDueStep, step_of}
 use Rattle.store_machine.specs.Machine.{Found, Running, Stepped, Stopped, Writing, part_in}
 use Rattle.store_machine.specs.Offers.{AnyByRecursion, sealed_in, stores_with_some}

@@ -2,9 +2,8 @@
 use Rattle.std.specs.Prelude.{◌≡◌, ◌≢◌, ◌⊎◌, ℕ, suc, ◌+◌, ◌-◌, ◌^◌, ◌<◌, ◌≤◌, true, false, List, [], ◌∷◌, length, map, is_some, slice_get, take, Contains, Option, Some, None, Result, Ok, Err}
 use Rattle.std.specs.FinMap as finite
 use Rattle.std.specs.List.{AllByRecursion}
-use Rattle.sha2.specs.Sha256.{sha256}
 use Rattle.actor_parts.specs.Offers.{IsOffer, sealed_of}
-use Rattle.actor_parts.specs.PinMap.{PinMap, has_pin}
+use Rattle.actor_parts.specs.PinMap.{PinMap}
 use Rattle.actor_parts.specs.Segments.{first_unpinned, pin_of}
 use Rattle.container_meta.specs.Segments.{Contents, KindSegment, segment_key}
 use Rattle.disk_format.specs.Cells.{Change, IsName, Root}
@@ -30,7 +29,7 @@ use Rattle.store_machine.specs.Asked as asked
 use Rattle.store_machine.specs.Done.{Done}
 use Rattle.store_machine.specs.Done as done
 use Rattle.store_machine.specs.Machine.{Collection, Found, Machine, Idle, Writing, Reading, RunState, Running, Stopped, Stepped, keeping, kind_of, one_more, part_in, put_at, stopped}
-use Rattle.store_machine.specs.Needs.{Fits, HasCopy, HasLength, HoldsKey, IsClash, IsLacked}
+use Rattle.store_machine.specs.Needs.{Fits, HasCopy, HasLength, HoldsKey, IsClash, IsKept, IsLacked}
 use Rattle.store_machine.specs.Offers.{AddsContainers, AllSegments, first_unkept_in, sealed_in, stores_with_some}
 use Rattle.store_machine.specs.Opening.{Reopens}
 use Rattle.store_machine.specs.Values.{Values}
@@ -49,13 +48,6 @@ taken_by asked.EndRead = Some kinds.Reading
 taken_by step = None
 
 -- ---- names and numbers
-
-abbrev pub empty_root : Root
-empty_root = record { length = 0; level = 0; digest = sha256 [] }
-
--- the root's segment is kept, with its level and length; that of the empty file needs none
-abbrev pub IsKept : PinMap → Root → Type 0
-IsKept pins root = (root ≡ empty_root) ⊎ (has_pin pins (root_key root) (record { level = root.level; length = root.length }) ≡ true)
 
 -- counts of the store
 abbrev pub counted : ℕ → Store → Done

@@ -1,24 +1,33 @@
 -- What is needed, and what a container may be given back for: keys that values have, which names have, actors or a collection that runs.
-use Rattle.std.specs.Prelude.{◌≡◌, ◌≢◌, ◌⊎◌, ◌<◌, ℕ, not, List, [], ◌∷◌, ◌++◌, filter, map, length, Contains, Option, Some, None, option_map}
+use Rattle.std.specs.Prelude.{◌≡◌, ◌≢◌, ◌⊎◌, ◌<◌, ℕ, true, not, List, [], ◌∷◌, ◌++◌, filter, map, length, Contains, Option, Some, None, option_map}
 use Rattle.std.specs.List.{list_any}
 use Rattle.std.specs.Str.{bytes_eq}
 use Rattle.std.specs.FinMap as finite
 use Rattle.actor_parts.specs.Segments.{first_unpinned, pin_by, pin_of}
-use Rattle.actor_parts.specs.PinMap.{PinMap}
+use Rattle.actor_parts.specs.PinMap.{PinMap, has_pin}
 use Rattle.sha2.specs.Sha256.{sha256}
 use Rattle.base_model.specs.Bytes.{byte_at, range}
 use Rattle.container_meta.specs.declared.kind.Kind.{Kind}
 use Rattle.container_meta.specs.declared.kind.Kind.TheVariants.{Tree}
 use Rattle.container_meta.specs.declared.place.Place.{Place}
 use Rattle.container_meta.specs.Segments.{KindSegment, Segment, segment_key}
+use Rattle.disk_format.specs.Cells.{Root}
 use Rattle.refusals.specs.declared.refusal.Difference.{Difference}
 use Rattle.refusals.specs.declared.refusal.Difference.TheVariants.{Length, Byte}
 use Rattle.store_model.specs.Image.{Store}
+use Rattle.store_model.specs.Refusals.{root_key}
 use Rattle.store_model.specs.Slots.{Copy, newest}
 use Rattle.store_machine.specs.Machine.{Collection, Found, Machine, Part, Writing, Reading}
 use Rattle.store_machine.specs.Values.{Values}
 
 -- ---- what actors keep
+
+abbrev pub empty_root : Root
+empty_root = record { length = 0; level = 0; digest = sha256 [] }
+
+-- the root's segment is kept, with its level and length; that of the empty file needs none
+abbrev pub IsKept : PinMap → Root → Type 0
+IsKept pins root = (root ≡ empty_root) ⊎ (has_pin pins (root_key root) (record { level = root.level; length = root.length }) ≡ true)
 
 -- the keys that writers keep, and the values that readers read
 abbrev pub keys_kept : {V R : Type 0} → List (Part V R) → List (List ℕ)

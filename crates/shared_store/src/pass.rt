@@ -1,5 +1,6 @@
 //! What one thread has of a store.
 ghost use Rattle.std.specs.Prelude.{◌≡◌, length};
+ghost use Rattle.shared_store.specs.Passes.{actor_of};
 
 use crate::held::Held;
 use actor_parts::Actor;
@@ -40,4 +41,13 @@ impl<C: HasState> Model for Pass<C> {
 
     ghost invariant = { λ p. Rests p.turn × (own_of p.turn.me.0.numbers ≡ p.actor)
         × (p.numbers ≡ length p.turn.me.0.numbers) };
+}
+
+impl<C: HasState> Pass<C> {
+    /// Its actor.
+    pub fn actor(&self) -> Actor
+        ensures { result ≡ actor_of self.now }
+    {
+        self.actor
+    }
 }

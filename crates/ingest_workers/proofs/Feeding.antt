@@ -124,7 +124,7 @@ module _ {S : Type 0} (asks : Asks S) (actor : ℕ) (file : LoadState) (start : 
           asked = here.asked ++ a.0 ∷ [];
           all = asks_snoc asks start old new here.asked a.0 here.all a.3;
           history = answered answer x here.history;
-          gives = Turned here.asked a.0 x here.history answer here.gives here.of_file a.1 a.2;
+          gives = Turned here.asked a.0 x here.history answer here.gives here.of_file turn.settled a.1 a.2;
           of_file = record {
             has = turn.history here.history here.of_file.has;
             begins = here.of_file.begins;
@@ -149,7 +149,7 @@ module _ {S : Type 0} (asks : Asks S) (actor : ℕ) (file : LoadState) (start : 
   stops refusal s t core new under (inr refused) name =
       let here = (paused_under s t core refused.0 under).0 in
       let a = due_asked (due_in t) t (Err refusal) core new refused.2 in
-      (here.asked ++ a.0 ∷ [], asks_snoc asks start core new here.asked a.0 here.all a.3, ByTurn here.asked a.0 t here.history here.gives here.of_file a.1 a.2)
+      (here.asked ++ a.0 ∷ [], asks_snoc asks start core new here.asked a.0 here.all a.3, ByTurn here.asked a.0 t here.history here.gives here.of_file refused.1 a.1 a.2)
 
   pub stopped_stops : (refusal : Refusal) (s t : SessionState) (old new : S) → Under s old → StoppedBy maker actor refusal s t old new → Stopped refusal new
   stopped_stops refusal s t old new under stopped =

@@ -112,7 +112,7 @@ module _ (actor : ℕ) where
       (record { actor_is = last.mine; step_is = ap (λ (x : Ask). x.step) last.asked ∙ step; answer = done.0; answer_is = ap (λ (x : Ask). x.answer) last.asked ∙ done.1 }))
       last.others)
   ingests file all h (Given rest g k gives untold) fs before is = owned.Given fs g h (ingests file all g gives fs before is) untold
-  ingests file all h (Turned rest a x g answer gives of due done) fs before is =
+  ingests file all h (Turned rest a x g answer gives of settled due done) fs before is =
       let last = last_own fs (back fs) (before ++ rest) a (is ∙ sym (append_assoc before rest (a ∷ []))) in
       subst (λ (l : List FileEvent). Ingests actor l h) (sym last.all_is)
       (ingests_beside actor (last.before ++ last.own ∷ []) last.after h

@@ -102,7 +102,7 @@ refused_stays step refusal kind = refl
 gives_writing : (file : LoadState) (all : List Ask) (h : History) → Gives file all h → (after : PartKind) → Went kinds.Idle all after → after ≡ kinds.Writing
 gives_writing file all h (Begun a step done) after went = by_step a kinds.Idle after went asked.Begin step (Ok done.0) done.1
 gives_writing file all h (Given rest g k gives untold) after went = gives_writing file rest g gives after went
-gives_writing file all h (Turned rest a x g answer gives of due told) after went =
+gives_writing file all h (Turned rest a x g answer gives of settled due told) after went =
     stays a kinds.Writing after (two kinds.Idle kinds.Writing after rest a went (gives_writing file rest g gives)) a.step refl (due_stays (due_in x) x a.step kinds.Writing due)
 
 stores_idle : (file : LoadState) (name : List ℕ) (root : Root) (all : List Ask) → Stores file name root all → (after : PartKind) → Went kinds.Idle all after → after ≡ kinds.Idle
@@ -115,7 +115,7 @@ stores_idle file name root all stores after went =
 stops_writing : (file : LoadState) (name : List ℕ) (refusal : Refusal) (all : List Ask) → Stops file name refusal all → (after : PartKind) → Went kinds.Idle all after
     → after ≡ kinds.Writing
 stops_writing file name refusal all (BySession rest s h gives of why) after went = gives_writing file rest h gives after went
-stops_writing file name refusal all (ByTurn rest a x h gives of due refused) after went =
+stops_writing file name refusal all (ByTurn rest a x h gives of settled due refused) after went =
     stays a kinds.Writing after (two kinds.Idle kinds.Writing after rest a went (gives_writing file rest h gives)) a.step refl (due_stays (due_in x) x a.step kinds.Writing due)
 stops_writing file name refusal all (ByCommit rest a s h root gives of ready step refused) after went =
     by_step a kinds.Writing after (two kinds.Idle kinds.Writing after rest a went (gives_writing file rest h gives)) (asked.Commit name root) step (Err refusal) refused

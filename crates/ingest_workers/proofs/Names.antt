@@ -94,7 +94,7 @@ module _ (name : List ℕ) where
   gives_fate : (file : LoadState) (all : List Ask) (h : History) → Gives file all h → fate name all ≡ None
   gives_fate file all h (Begun a step done) = ap (λ (o : Option Bool). later o None) (untouched a asked.Begin step refl)
   gives_fate file all h (Given rest g k gives untold) = gives_fate file rest g gives
-  gives_fate file all h (Turned rest a x g answer gives of due done) = push_fate rest a (gives_fate file rest g gives) (due_untouched (due_in x) x a.step a.answer due)
+  gives_fate file all h (Turned rest a x g answer gives of settled due done) = push_fate rest a (gives_fate file rest g gives) (due_untouched (due_in x) x a.step a.answer due)
 
   done_touch : (a : Ask) (step : StepValue) → a.step ≡ step → IsDone a → (b : Option Bool) → ((answer : Answer) → touch name step (Ok answer) ≡ b) → touch name a.step a.answer ≡ b
   done_touch a step is done b each =

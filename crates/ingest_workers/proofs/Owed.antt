@@ -13,6 +13,7 @@ use Rattle.ingest_session.specs.Calls.{ready_in}
 use Rattle.ingest_session.specs.Due.{due_in}
 use Rattle.ingest_session.specs.History.{History}
 use Rattle.ingest_session.specs.State.{SessionState}
+use Rattle.ingest_session.specs.Told.{IsSettled}
 use Rattle.session_turns.specs.Owning.{IsAskedFor}
 use Rattle.ingest_workers.specs.declared.job.Job.{Job}
 use Rattle.ingest_workers.specs.declared.job.JobEnd.{JobEnd}
@@ -36,8 +37,10 @@ module _ (own : List LoadState) where
   -- ---- a file
 
   module _ (file : LoadState) (is_file : Contains own file) where
-    due_owed : (before : List Ask) (s : SessionState) (h : History) (step : StepValue) → IsGiving file before s h → IsAskedFor (due_in s) s step → IsOwed own before step
-    due_owed before s h step giving asks = by_due (due_in s) step asks (record { file = file; is_file = is_file; session = s; history = h; giving = giving; due = asks })
+    due_owed : (before : List Ask) (s : SessionState) (h : History) (step : StepValue) → IsGiving file before s h → IsSettled s → IsAskedFor (due_in s) s step
+        → IsOwed own before step
+    due_owed before s h step giving settled asks =
+        by_due (due_in s) step asks (record { file = file; is_file = is_file; session = s; history = h; giving = giving; settled = settled; due = asks })
       where
         by_due : (due : Due) (step : StepValue) → IsAskedFor due s step → IsDueOf own before step → IsOwed own before step
         by_due dues.Claim (asked.Claim seg) asks is = is
@@ -50,8 +53,8 @@ module _ (own : List LoadState) where
     gives_owed : (all : List Ask) (h : History) → Gives file all h → (before : List Ask) → AreOwed own before all
     gives_owed all h (Begun a step done) before = (as_asked before a asked.Begin step tt, tt)
     gives_owed all h (Given rest g k gives untold) before = gives_owed rest g gives before
-    gives_owed all h (Turned rest a x g answer gives of due done) before =
-        append before rest (a ∷ []) (gives_owed rest g gives before) (due_owed (before ++ rest) x g a.step (giving_of before rest x g gives of) due, tt)
+    gives_owed all h (Turned rest a x g answer gives of settled due done) before =
+        append before rest (a ∷ []) (gives_owed rest g gives before) (due_owed (before ++ rest) x g a.step (giving_of before rest x g gives of) settled due, tt)
 
     commit_owed : (before all : List Ask) (a : Ask) (s : SessionState) (h : History) (name : List ℕ) (root : Root) → IsNameOf file name → Gives file all h → SessionOf file s h
         → ready_in s ≡ Some root → a.step ≡ asked.Commit name root → IsOwed own (before ++ all) a.step
@@ -67,8 +70,8 @@ module _ (own : List LoadState) where
 
     stops_owed : (name : List ℕ) (refusal : Refusal) (all : List Ask) → IsNameOf file name → Stops file name refusal all → (before : List Ask) → AreOwed own before all
     stops_owed name refusal all named (BySession rest s h gives of why) before = gives_owed rest h gives before
-    stops_owed name refusal all named (ByTurn rest a x h gives of due refused) before =
-        append before rest (a ∷ []) (gives_owed rest h gives before) (due_owed (before ++ rest) x h a.step (giving_of before rest x h gives of) due, tt)
+    stops_owed name refusal all named (ByTurn rest a x h gives of settled due refused) before =
+        append before rest (a ∷ []) (gives_owed rest h gives before) (due_owed (before ++ rest) x h a.step (giving_of before rest x h gives of) settled due, tt)
     stops_owed name refusal all named (ByCommit rest a s h root gives of ready step refused) before =
         append before rest (a ∷ []) (gives_owed rest h gives before) (commit_owed before rest a s h name root named gives of ready step, tt)
 

@@ -13,6 +13,7 @@ use Rattle.ingest_session.specs.Calls.{ready_in}
 use Rattle.ingest_session.specs.Due.{due_in}
 use Rattle.ingest_session.specs.History.{History, HasHistory, answered, no_history}
 use Rattle.ingest_session.specs.State.{SessionState}
+use Rattle.ingest_session.specs.Told.{IsSettled}
 use Rattle.session_turns.specs.Owning.{IsAskedFor, IsUntold}
 
 -- ---- what was asked for
@@ -37,13 +38,13 @@ pub record SessionOf (file : LoadState) (s : SessionState) (h : History) : Type 
   pub begins : BeginsFile file h.given
   pub whole : s.ended ≡ true → length h.given ≡ file.length
 
--- An actor began to store a file, and then each step was the one that was due to a session of it, which was told the answer: this was done
--- with the session.
+-- An actor began to store a file, and then each step was the one that was due to a settled session of it, which was told the answer: this
+-- was done with the session.
 pub data Gives (file : LoadState) : List Ask → History → Type 0 where
   Begun : (a : Ask) → a.step ≡ asked.Begin → IsDone a → Gives file (a ∷ []) no_history
   Given : (all : List Ask) (h k : History) → Gives file all h → IsUntold h k → Gives file all k
   Turned : (all : List Ask) (a : Ask) (x : SessionState) (h : History) (answer : Answer) → Gives file all h → SessionOf file x h
-      → IsAskedFor (due_in x) x a.step → a.answer ≡ Ok answer → Gives file (all ++ a ∷ []) (answered answer x h)
+      → (settled : IsSettled x) → IsAskedFor (due_in x) x a.step → a.answer ≡ Ok answer → Gives file (all ++ a ∷ []) (answered answer x h)
 
 -- ---- a file that is stored
 
@@ -66,7 +67,7 @@ pub data Stops (file : LoadState) (name : List ℕ) (refusal : Refusal) : List A
   BySession : (all : List Ask) (s : SessionState) (h : History) → Gives file all h → SessionOf file s h
       → (refusal ≡ Memory) ⊎ ((refusal ≡ TooLong) × (MOST_FILE < file.length)) → Stops file name refusal all
   ByTurn : (all : List Ask) (a : Ask) (x : SessionState) (h : History) → Gives file all h → SessionOf file x h
-      → IsAskedFor (due_in x) x a.step → IsRefused refusal a → Stops file name refusal (all ++ a ∷ [])
+      → (settled : IsSettled x) → IsAskedFor (due_in x) x a.step → IsRefused refusal a → Stops file name refusal (all ++ a ∷ [])
   ByCommit : (all : List Ask) (a : Ask) (s : SessionState) (h : History) (root : Root) → Gives file all h → SessionOf file s h
       → ready_in s ≡ Some root → a.step ≡ asked.Commit name root → IsRefused refusal a → Stops file name refusal (all ++ a ∷ [])
 

@@ -19,6 +19,7 @@ use Rattle.ingest_session.specs.Calls.{ready_in}
 use Rattle.ingest_session.specs.Due.{due_in}
 use Rattle.ingest_session.specs.History.{History}
 use Rattle.ingest_session.specs.State.{SessionState}
+use Rattle.ingest_session.specs.Told.{IsSettled as IsSettledSession}
 use Rattle.store_core.specs.Runs.{CoreRun, FileEvent, FileRun, IsAt, events_of}
 use Rattle.store_core.specs.State.{CoreState, Event}
 use Rattle.session_turns.specs.Owning.{IsAskedFor}
@@ -55,13 +56,14 @@ pub record IsGiving (file : LoadState) (before : List Ask) (s : SessionState) (h
   pub gives : Gives file gave h
   pub of_file : SessionOf file s h
 
--- the step is due to the session of one of the files
+-- the step is due to the session of one of the files, which is settled
 pub record IsDueOf (own : List LoadState) (before : List Ask) (step : StepValue) : Type 0 where
   pub file : LoadState
   pub is_file : Contains own file
   pub session : SessionState
   pub history : History
   pub giving : IsGiving file before session history
+  pub settled : IsSettledSession session
   pub due : IsAskedFor (due_in session) session step
 
 -- the root is the one that such a session is ready with, and the name one of the two of its file

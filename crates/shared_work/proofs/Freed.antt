@@ -124,7 +124,7 @@ module _ {C E : Type 0} (actor : E → ℕ) (Makes : E → C → C → Type 0) (
 
 -- ---- asks
 
-ask_back : (x : ℕ) (all : List Ask) → map ask_of (map (event_of x) all) ≡ all
+pub ask_back : (x : ℕ) (all : List Ask) → map ask_of (map (event_of x) all) ≡ all
 ask_back x [] = refl
 ask_back x (a ∷ all) = ap (λ (l : List Ask). a ∷ l) (ask_back x all)
 
@@ -140,7 +140,7 @@ all_idle (suc n) zero = refl
 all_idle (suc n) (suc actor) = all_idle n actor
 
 module _ {C : Type 0} (state : C → CoreState) where
-  asks_by_steps : (x : ℕ) (es : List Event) → asks_of x es ≡ map ask_of (steps_by actor_in (MakesStep state) x es)
+  pub asks_by_steps : (x : ℕ) (es : List Event) → asks_of x es ≡ map ask_of (steps_by actor_in (MakesStep state) x es)
   asks_by_steps x [] = refl
   asks_by_steps x (e ∷ es) = pick (e.actor == x) e (asks_of x es) (steps_by actor_in (MakesStep state) x es) (asks_by_steps x es)
 

@@ -1,1 +1,10 @@
+pub mod Clashing
+pub mod Complete
+pub mod Completing
+pub mod Ending
 pub mod Freed
+pub mod Left
+pub mod Pinning
+pub mod Streams
+pub mod Whole
+pub mod Working

@@ -1,0 +1,5 @@
+use Rattle.shared_work.proofs.Completing.{works_are_complete}
+use Rattle.shared_work.proofs.laws.a_work_is_complete.Goals as goal
+
+pub returns : goal.returns
+returns g c = works_are_complete g.C.HasState.state c.nothing_clashes.ensures c.nothing_lacks_a_pin.ensures c.what_jobs_ask_for_is_owed.ensures

@@ -1,0 +1,24 @@
+use Rattle.std.proofs.Common.{Result, List, [], ◌∷◌, Ok, Err, refl, ap}
+use Rattle.actor_parts.specs.Asking.{Ask}
+use Rattle.actor_parts.specs.StepValue as asked
+use Rattle.refusals.specs.declared.refusal.Refusal.{Refusal}
+use Rattle.session_turns.proofs.Results.{by_error}
+use Rattle.shared_work.specs.Whole.{CountsAll}
+use Rattle.shared_work.proofs.whole.count.Goals as goal
+
+pub returns-in_err-segments : goal.returns-in_err-segments
+returns-in_err-segments g c =
+    let e = c.in_err-segments.field-0.0 in
+    let a : Ask = record { step = asked.Unique; answer = Err e; buf = c.ask.new.buf } in (
+      a ∷ [],
+      (c.ask.new.self, (c.in_err-segments.ensures.asks, refl)),
+      by_error (λ (r : Result _ Refusal). CountsAll r (a ∷ [])) c.from_residual.result e c.from_residual.ensures.1 (a, (refl, refl, refl)),
+    )
+
+pub returns : goal.returns
+returns g c =
+    let a : Ask = record { step = asked.Unique; answer = Ok c.in_ok-segments.field-0; buf = c.ask.new.buf } in (
+      a ∷ [],
+      (c.ask.new.self, (c.in_ok-segments.ensures.asks, refl)),
+      (a, (refl, refl, ap Ok c.in-Unique.is)),
+    )

@@ -62,7 +62,7 @@ module _ (P Q : List ℕ → Type 0) (v opened last now : DiskView) (first : v.c
     ];
   }
 
-opened_clock : (D : Type 0) (view : D → DiskView) (v : DiskView) (c : CoreState) → OpensCore D view v c → v.clock ≤ c.disk.clock
+pub opened_clock : (D : Type 0) (view : D → DiskView) (v : DiskView) (c : CoreState) → OpensCore D view v c → v.clock ≤ c.disk.clock
 opened_clock D view v c (inl read) = read.reads.only.later.clock_is
 opened_clock D view v c (inr (mid, (made, read))) = omega (arith, made.later.clock_is, read.reads.only.later.clock_is)
 

@@ -1,18 +1,19 @@
 -- The line that clap's matches are.
-use Rattle.backup_engine.proofs.Prelude.{◌≡◌, ◌∙◌, ◌++◌, ◌⊎◌, inl, inr, ℕ, Bool, true, false, List, [], ◌∷◌, codes, map, Option, Some, None, option_map, refl, sym, ap, ap₂, subst, slice_get, IsUtf8, bytes_eq, chars, bytes_eq-Decides, long_of, short_of, first_of, nothing_held, rows_after, Shape, Kinds, TableLine, Single, Check, argument_of, has_no_argument, is_separator, line_matched, table_app}
+use Rattle.backup_engine.proofs.Prelude.{◌≡◌, ◌∙◌, ◌++◌, ◌⊎◌, inl, inr, ℕ, Bool, true, false, List, [], ◌∷◌, codes, map, Option, Some, None, option_map, refl, sym, ap, ap₂, subst, slice_get, IsUtf8, bytes_eq, chars, bytes_eq-Decides, long_of, short_of, first_of, nothing_held, rows_after, App, Shape, Kinds, TableLine, Single, Check, Work, arguments_of, is_separator, line_matched, one_argument, table_app}
 use Rattle.std.proofs.Common.{fold, is_some, option_and_then}
 use Rattle.std.specs.Prelude.{string_bytes, String}
 use Rattle.std.specs.Global.{Global}
 use Rattle.std.proofs.lemmas.Str.{IsUtf8-string_bytes}
 use Rattle.clap.specs.Walk.{Names, Walk, finished, idle, settled, subcommand_met, walk, walk_from, walked}
-use Rattle.clap.specs.Simple.{built, entered, is_simple, names_of, subcommand_of}
+use Rattle.clap.specs.Simple.{built, built_leaf, entered, inherited, is_simple, marked_built, names_of, new_app, subcommand_of, with_leaf_noted}
 use Rattle.clap.specs.Kinds.{IsAmong, or_else}
-use Rattle.clap.specs.Faults.{check_fault, defaults_fault, entered_fault, fault_of, is_simple_and_free, settle_fault, turn_fault, walk_fault}
+use Rattle.clap.specs.Faults.{check_fault, defaults_fault, entered_fault, fault_of, is_simple_and_free, level_fault, settle_fault, turn_fault, walk_fault}
 use Rattle.clap.proofs.OnLiterals.{clap_on_literals}
 use Rattle.clap.proofs.WalkLemmas.{walk_stopped}
-use Rattle.backup_engine.specs.Line.{Run, command_of, line_by, line_of}
+use Rattle.backup_engine.specs.Line.{Run, alone, command_of, line_by, line_of, line_with, load_of, only_one}
 use Rattle.backup_engine.specs.Line as table
-use Rattle.backup_engine.proofs.ClapWords.{AreTexts, Look, fault_in, long, look_of, none, none_taken, one, one_taken, plain, separator, short, unless}
+use Rattle.backup_engine.specs.Words.{line_found, load_arguments, load_matched}
+use Rattle.backup_engine.proofs.ClapWords.{AreTexts, Look, answered, long, look_of, plain, separator, short, stage, taken, unless}
 use Rattle.clap.specs.Words.{Row, Text, subcommand_name_of, subcommand_rows_of}
 use Rattle.clap.specs.declared.error.ErrorKind.{ErrorKind}
 use Rattle.clap.specs.declared.parser.ArgMatches.{ArgMatches}
@@ -74,19 +75,64 @@ named : (name : Text) (words : List Text) → walked [] names start name ≡ rec
 named name words met turn =
     ap₂ (λ (way : Kinds) (end : Walk). unless (fault_at way end) (line_at end)) (no_walk_fault name words met turn) (end_is name words met)
 
-module _ (words : List Text) (texts : AreTexts words) where
-  abbrev answered : Text → Option TableLine
-  answered name = option_map Single (option_and_then (command_of name) (argument_of words))
+-- ---- the words after the name
 
-  one_answers : (name : Text) → unless (fault_in (one name) words)
-      (option_map Single (option_and_then (command_of name) (first_of (codes "argument") (rows_after (one name).rules [] words)))) ≡ answered name
+abbrev leaf : App → Shape
+leaf app = built_leaf (inherited (with_leaf_noted (marked_built table_app.top)) app.top)
+
+-- a command with one argument, one with none, and that with the arguments of a load, as they are built
+abbrev one : Text → Shape
+one name = leaf (one_argument name)
+
+abbrev none : Text → Shape
+none name = leaf (new_app name)
+
+abbrev five : Shape
+five = leaf load_arguments
+
+abbrev one_line : Text → Option Text → Option TableLine
+one_line name argument = option_map Single (option_and_then (command_of name) argument)
+
+-- what each makes of its arguments
+one_word : (name : Text) (words : List Text)
+    → answered (one name) (λ rows. one_line name (first_of (codes "argument") rows)) (stage nothing_held 1 true) words ≡ one_line name (only_one words)
+unfolding clap_on_literals
+one_word name [] = refl
+one_word name (word ∷ []) = refl
+one_word name (word ∷ second ∷ words) = refl
+
+no_word : (name : Text) (line : TableLine) (words : List Text) → answered (none name) (λ rows. Some line) (stage nothing_held 1 true) words ≡ alone line words
+unfolding clap_on_literals
+no_word name line [] = refl
+no_word name line (word ∷ words) = refl
+
+five_words : (words : List Text)
+    → answered five (λ rows. option_map Work (load_matched rows)) (stage nothing_held 1 true) words ≡ option_map Work (load_of words)
+unfolding clap_on_literals
+five_words [] = refl
+five_words (a ∷ []) = refl
+five_words (a ∷ b ∷ []) = refl
+five_words (a ∷ b ∷ c ∷ []) = refl
+five_words (a ∷ b ∷ c ∷ d ∷ []) = refl
+five_words (a ∷ b ∷ c ∷ d ∷ e ∷ []) = refl
+five_words (a ∷ b ∷ c ∷ d ∷ e ∷ f ∷ words) = refl
+
+by_arguments : {X : Type 0} (f g : List Text → Option X) → ((words : List Text) → f words ≡ g words) → (o : Option (List Text))
+    → option_and_then f o ≡ option_and_then g o
+by_arguments f g same None = refl
+by_arguments f g same (Some words) = same words
+
+module _ (words : List Text) (texts : AreTexts words) where
+  abbrev fault_in : Shape → Kinds
+  fault_in shape = or_else (level_fault shape [] nothing_held words false []) []
+
+  one_answers : (name : Text) → unless (fault_in (one name)) (one_line name (first_of (codes "argument") (rows_after (one name).rules [] words)))
+      ≡ option_and_then (λ (arguments : List Text). one_line name (only_one arguments)) (arguments_of words)
   one_answers name =
-      inside (fault_in (one name) words) _ ∙ ap (λ (argument : Option Text). option_map Single (option_and_then (command_of name) argument)) (one_taken name words texts)
-    where
-      inside : (faults : Kinds) (argument : Option Text) → unless faults (option_map Single (option_and_then (command_of name) argument))
-          ≡ option_map Single (option_and_then (command_of name) (unless faults argument))
-      inside [] argument = refl
-      inside (fault ∷ more) argument = refl
+      taken (one name) (λ rows. one_line name (first_of (codes "argument") rows)) refl words texts ∙ by_arguments _ _ (one_word name) (arguments_of words)
+
+  none_answers : (name : Text) (line : TableLine) → unless (fault_in (none name)) (Some line) ≡ option_and_then (alone line) (arguments_of words)
+  none_answers name line = taken (none name) (λ rows. Some line) refl words texts ∙ by_arguments _ _ (no_word name line) (arguments_of words)
 
   format_line : clap_line (codes "format" ∷ words) ≡ line_by (codes "format") words
   unfolding clap_on_literals
@@ -110,20 +156,27 @@ module _ (words : List Text) (texts : AreTexts words) where
 
   list_line : clap_line (codes "list" ∷ words) ≡ line_by (codes "list") words
   unfolding clap_on_literals
-  list_line = named (codes "list") words refl refl ∙ none_taken (codes "list") (Some (Single table.List)) words texts
+  list_line = named (codes "list") words refl refl ∙ none_answers (codes "list") (Single table.List)
 
   run_line : clap_line (codes "run" ∷ words) ≡ line_by (codes "run") words
   unfolding clap_on_literals
-  run_line = named (codes "run") words refl refl ∙ none_taken (codes "run") (Some Run) words texts
+  run_line = named (codes "run") words refl refl ∙ none_answers (codes "run") Run
 
   check_line : clap_line (codes "check" ∷ words) ≡ line_by (codes "check") words
   unfolding clap_on_literals
-  check_line = named (codes "check") words refl refl ∙ none_taken (codes "check") (Some Check) words texts
+  check_line = named (codes "check") words refl refl ∙ none_answers (codes "check") Check
+
+  work_line : clap_line (codes "work" ∷ words) ≡ line_by (codes "work") words
+  unfolding clap_on_literals
+  work_line =
+      named (codes "work") words refl refl ∙ taken five (λ rows. option_map Work (load_matched rows)) refl words texts
+      ∙ by_arguments _ _ five_words (arguments_of words)
 
 -- ---- words of which the first names no command
 
 record IsNoName (word : Text) : Type 0 where
   run : (bytes_eq (codes "run") word ≡ false) × (bytes_eq word (codes "run") ≡ false)
+  work : (bytes_eq (codes "work") word ≡ false) × (bytes_eq word (codes "work") ≡ false)
   check : (bytes_eq (codes "check") word ≡ false) × (bytes_eq word (codes "check") ≡ false)
   list : (bytes_eq (codes "list") word ≡ false) × (bytes_eq word (codes "list") ≡ false)
   format : (bytes_eq (codes "format") word ≡ false) × (bytes_eq word (codes "format") ≡ false)
@@ -134,14 +187,18 @@ record IsNoName (word : Text) : Type 0 where
 
 not_met : (word : Text) → IsNoName word → subcommand_met names idle word ≡ None
 not_met word other =
-    rw (other.format.0, other.ingest.0, other.restore.0, other.delete.0, other.collect.0, other.list.0, other.run.0, other.check.0) refl
+    rw (other.format.0, other.ingest.0, other.restore.0, other.delete.0, other.collect.0, other.list.0, other.run.0, other.check.0, other.work.0) refl
 
 no_line : (word : Text) (words : List Text) → IsNoName word → line_by word words ≡ None
-no_line word words other = rw (other.run.1, other.check.1, other.list.1) (go (argument_of words))
+no_line word words other = by (arguments_of words)
   where
-    go : (argument : Option Text) → option_map Single (option_and_then (command_of word) argument) ≡ None
+    go : (argument : Option Text) → one_line word argument ≡ None
     go None = refl
     go (Some a) = rw (other.format.1, other.ingest.1, other.restore.1, other.delete.1, other.collect.1) refl
+
+    by : (o : Option (List Text)) → option_and_then (line_with word) o ≡ None
+    by None = refl
+    by (Some arguments) = rw (other.run.1, other.check.1, other.list.1, other.work.1) (go (only_one arguments))
 
 separator_first : (words : List Text) (answer : Option TableLine) → unless (fault_of table_app (codes "--" ∷ words)) answer ≡ None
 unfolding clap_on_literals
@@ -199,16 +256,20 @@ first_line word words text texts = elim (is_name (codes "run") word) [
               | inl is ↦ at_name (codes "delete") is (delete_line words texts)
               | inr delete ↦ elim (is_name (codes "collect") word) [
                 | inl is ↦ at_name (codes "collect") is (collect_line words texts)
-                | inr collect ↦ unnamed word words (look_of word text) (record {
-                  run = run;
-                  check = check;
-                  list = list;
-                  format = format;
-                  ingest = ingest;
-                  restore = restore;
-                  delete = delete;
-                  collect = collect;
-                })
+                | inr collect ↦ elim (is_name (codes "work") word) [
+                  | inl is ↦ at_name (codes "work") is (work_line words texts)
+                  | inr work ↦ unnamed word words (look_of word text) (record {
+                    run = run;
+                    work = work;
+                    check = check;
+                    list = list;
+                    format = format;
+                    ingest = ingest;
+                    restore = restore;
+                    delete = delete;
+                    collect = collect;
+                  })
+                ]
               ]
             ]
           ]

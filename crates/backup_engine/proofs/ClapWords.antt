@@ -1,16 +1,18 @@
--- What clap makes of the words of each command, by what each word looks like.
-use Rattle.backup_engine.proofs.Prelude.{◌≡◌, ◌∙◌, ℕ, ◌==◌, Bool, true, false, List, [], ◌∷◌, codes, Option, Some, None, cond, refl, sym, ap, subst, slice_get, IsUtf8, chars, eqb-true, long_of, short_of, first_of, nothing_held, rows_after, Shape, Kinds, argument_of, has_no_argument, is_separator, one_argument, table_app}
-use Rattle.std.proofs.Common.{◌&&◌, not}
+-- What clap makes of the words of a command that takes words in their order alone, by what each word looks like.
+use Rattle.backup_engine.proofs.Prelude.{◌≡◌, ◌∙◌, ℕ, ◌==◌, Bool, true, false, List, [], ◌∷◌, codes, Option, Some, None, cond, option_map, refl, sym, ap, ap₂, subst, slice_get, IsUtf8, chars, eqb-true, long_of, short_of, nothing_held, rows_after, Shape, Kinds, arguments_of, is_separator}
+use Rattle.std.proofs.Common.{◌&&◌, fold, is_some, not, option_and_then}
+use Rattle.std.specs.List.{find, list_all}
 use Rattle.std.specs.Char.{encode_utf8}
 use Rattle.std.specs.Str.{encode_utf8_all}
 use Rattle.std.proofs.lemmas.Str.{IsUtf8-past_char, encodes-chars}
 use Rattle.clap.specs.Lexer.{name_and_value}
-use Rattle.clap.specs.Walk.{Text}
-use Rattle.clap.specs.Simple.{built_leaf, inherited, marked_built, new_app, with_leaf_noted}
+use Rattle.clap.specs.Walk.{Held, Row, Rule, Text, Walk, arg_by_index, arg_by_long, arg_by_short, finished, has_long, has_short, idle, is_multiple, is_pending, next_position, positional_held, settled, takes_several, to_positional, walked}
 use Rattle.clap.specs.Kinds.{or_else}
-use Rattle.clap.specs.Faults.{level_fault}
+use Rattle.clap.specs.Faults.{check_fault, defaults_fault, flags_fault, level_fault, settle_fault, turn_fault, walk_fault}
+use Rattle.clap.specs.declared.error.kind.ErrorKind.TheVariants.{UnknownArgument}
 use Rattle.clap.proofs.OnLiterals.{clap_on_literals}
 use Rattle.backup_engine.specs.Line.{is_dashed}
+use Rattle.backup_engine.proofs.Numbers.{and_left, and_right}
 
 -- ---- what a word looks like
 
@@ -50,175 +52,192 @@ look_of (x ∷ y ∷ rest) text = go (x == 45) (y == 45) refl refl
         short e (rw (e, f) refl) (rw (e, f) refl) y rest (rw (e, f) refl) first.0 first.1
     go true true e f = dashes rest (eqb-true x 45 e) (eqb-true y 45 f) e f
 
--- ---- the words after the name of a command
+-- ---- a command that takes words in their order alone
 
 -- the answer, where no fault comes
 abbrev pub unless : {X : Type 0} → Kinds → Option X → Option X
 unless [] answer = answer
 unless (fault ∷ rest) answer = None
 
--- a command with one argument, and one with none, as they are built
-abbrev pub one : Text → Shape
-one name = built_leaf (inherited (with_leaf_noted (marked_built table_app.top)) (one_argument name).top)
+unless_none : {X : Type 0} (faults : Kinds) → unless {X = X} faults None ≡ None
+unless_none [] = refl
+unless_none (fault ∷ rest) = refl
 
-abbrev pub none : Text → Shape
-none name = built_leaf (inherited (with_leaf_noted (marked_built table_app.top)) (new_app name).top)
+unless_either : {X : Type 0} (first next : Kinds) (answer : Option X) → unless (or_else first next) answer ≡ unless first (unless next answer)
+unless_either [] next answer = refl
+unless_either (fault ∷ rest) next answer = refl
 
-abbrev pub fault_in : Shape → List Text → Kinds
-fault_in shape words = or_else (level_fault shape [] nothing_held words false []) []
-
-abbrev pub value_in : Shape → List Text → Option Text
-value_in shape words = unless (fault_in shape words) (first_of (codes "argument") (rows_after shape.rules [] words))
-
-no_dashed : (word : Text) (more : List Text) → is_dashed word ≡ true → is_separator word ≡ false → argument_of (word ∷ more) ≡ None
-no_dashed word [] dashed other = rw dashed refl
-no_dashed word (second ∷ []) dashed other = go (is_separator second)
-  where
-    go : (b : Bool) → cond (is_separator word) (Some second) (cond (b && not (is_dashed word)) (Some word) None) ≡ None
-    go true = rw (other, dashed) refl
-    go false = rw other refl
-no_dashed word (second ∷ third ∷ more) dashed other = refl
-
-one_nothing : (name : Text) → value_in (one name) [] ≡ argument_of []
-unfolding clap_on_literals
-one_nothing name = refl
-
-one_separated : (name : Text) (words : List Text) → value_in (one name) (codes "--" ∷ words) ≡ argument_of (codes "--" ∷ words)
-unfolding clap_on_literals
-one_separated name [] = refl
-one_separated name (word ∷ []) = refl
-one_separated name (word ∷ other ∷ words) = refl
-
-one_long : (name word : Text) (words : List Text) (option : Text × Option Text) → is_separator word ≡ false → long_of word ≡ Some option
-    → value_in (one name) (word ∷ words) ≡ None
-unfolding clap_on_literals
-one_long name word words option other is_long = rw (other, is_long) refl
-
-one_short : (name word : Text) (words : List Text) (x : ℕ) (xs : Text) (first : ℕ) → is_separator word ≡ false → long_of word ≡ None
-    → short_of word ≡ Some (x ∷ xs) → slice_get (chars (x ∷ xs)) 0 ≡ Some first → value_in (one name) (word ∷ words) ≡ None
-unfolding clap_on_literals
-one_short name word words x xs first other no_long is_short first_is = rw (other, no_long, is_short, first_is) refl
-
-one_plain : (name word : Text) → is_separator word ≡ false → long_of word ≡ None → short_of word ≡ None → value_in (one name) (word ∷ []) ≡ Some word
-unfolding clap_on_literals
-one_plain name word other no_long no_short = rw (other, no_long, no_short) refl
-
-one_plain_separated : (name word : Text) → is_separator word ≡ false → long_of word ≡ None → short_of word ≡ None
-    → value_in (one name) (word ∷ codes "--" ∷ []) ≡ Some word
-unfolding clap_on_literals
-one_plain_separated name word other no_long no_short = rw (other, no_long, no_short) refl
-
-one_plain_more : (name word third : Text) (words : List Text) → is_separator word ≡ false → long_of word ≡ None → short_of word ≡ None
-    → value_in (one name) (word ∷ codes "--" ∷ third ∷ words) ≡ None
-unfolding clap_on_literals
-one_plain_more name word third words other no_long no_short = rw (other, no_long, no_short) refl
-
-one_plain_long : (name word second : Text) (words : List Text) (option : Text × Option Text) → is_separator word ≡ false → long_of word ≡ None
-    → short_of word ≡ None → is_separator second ≡ false → long_of second ≡ Some option → value_in (one name) (word ∷ second ∷ words) ≡ None
-unfolding clap_on_literals
-one_plain_long name word second words option other no_long no_short more is_long = rw (other, no_long, no_short, more, is_long) refl
-
-one_plain_short : (name word second : Text) (words : List Text) (x : ℕ) (xs : Text) (first : ℕ) → is_separator word ≡ false → long_of word ≡ None
-    → short_of word ≡ None → is_separator second ≡ false → long_of second ≡ None → short_of second ≡ Some (x ∷ xs)
-    → slice_get (chars (x ∷ xs)) 0 ≡ Some first → value_in (one name) (word ∷ second ∷ words) ≡ None
-unfolding clap_on_literals
-one_plain_short name word second words x xs first other no_long no_short more not_long is_short first_is =
-    rw (other, no_long, no_short, more, not_long, is_short, first_is) refl
-
-one_plain_plain : (name word second : Text) (words : List Text) → is_separator word ≡ false → long_of word ≡ None
-    → short_of word ≡ None → is_separator second ≡ false → long_of second ≡ None → short_of second ≡ None
-    → value_in (one name) (word ∷ second ∷ words) ≡ None
-unfolding clap_on_literals
-one_plain_plain name word second words other no_long no_short more not_long not_short =
-    rw (other, no_long, no_short, more, not_long, not_short) refl
+unless_in_turn : {X : Type 0} (first next last : Kinds) (answer : Option X)
+    → unless (or_else (or_else first next) last) answer ≡ unless first (unless (or_else next last) answer)
+unless_in_turn [] next last answer = refl
+unless_in_turn (fault ∷ rest) next last answer = refl
 
 -- each word is one of UTF-8
 abbrev pub AreTexts : List Text → Type 0
 AreTexts [] = Unit {0}
 AreTexts (word ∷ words) = IsUtf8 word × AreTexts words
 
-no_second : (word second : Text) (words : List Text) → is_separator word ≡ false → is_separator second ≡ false
-    → argument_of (word ∷ second ∷ words) ≡ None
-no_second word second [] other more = rw (other, more) refl
-no_second word second (third ∷ words) other more = refl
+-- an argument that takes one word, by its place
+abbrev pub is_placed : Rule → Bool
+is_placed a = is_some a.index && (not (is_multiple a) && not a.trailing_var_arg)
 
-plain_taken : (name word : Text) (words : List Text) → AreTexts words → is_dashed word ≡ false → is_separator word ≡ false → long_of word ≡ None
-    → short_of word ≡ None → value_in (one name) (word ∷ words) ≡ argument_of (word ∷ words)
-plain_taken name word [] texts dashed other no_long no_short =
-    let alone : argument_of (word ∷ []) ≡ Some word = rw dashed refl in
-    one_plain name word other no_long no_short ∙ sym alone
-plain_taken name word (second ∷ words) texts dashed other no_long no_short = go words (look_of second texts.0)
+abbrev IsPlaced : Option Rule → Type 0
+IsPlaced None = Unit {0}
+IsPlaced (Some a) = is_placed a ≡ true
+
+found_placed : (p : Rule → Bool) (rules : List Rule) → list_all is_placed rules ≡ true → IsPlaced (find p rules)
+found_placed p [] placed = tt
+found_placed p (a ∷ rules) placed = go (p a) (found_placed p rules (and_right (is_placed a) _ placed))
   where
-    after : (rest : List Text) → value_in (one name) (word ∷ codes "--" ∷ rest) ≡ argument_of (word ∷ codes "--" ∷ rest)
-    after [] =
-        let first : argument_of (word ∷ codes "--" ∷ []) ≡ Some word = rw (other, dashed) refl in
-        one_plain_separated name word other no_long no_short ∙ sym first
-    after (third ∷ rest) = one_plain_more name word third rest other no_long no_short
+    go : (b : Bool) → IsPlaced (find p rules) → IsPlaced (cond b (Some a) (find p rules))
+    go true so = and_left (is_placed a) _ placed
+    go false so = so
 
-    go : (rest : List Text) → Look second → value_in (one name) (word ∷ second ∷ rest) ≡ argument_of (word ∷ second ∷ rest)
-    go rest (separator is) =
-        subst (λ (w : Text). value_in (one name) (word ∷ w ∷ rest) ≡ argument_of (word ∷ w ∷ rest)) (sym is) (after rest)
-    go rest (long _ more option is_long) =
-        one_plain_long name word second rest option other no_long no_short more is_long ∙ sym (no_second word second rest other more)
-    go rest (short _ more not_long x xs is_short first first_is) =
-        one_plain_short name word second rest x xs first other no_long no_short more not_long is_short first_is
-        ∙ sym (no_second word second rest other more)
-    go rest (plain _ more not_long not_short) =
-        one_plain_plain name word second rest other no_long no_short more not_long not_short ∙ sym (no_second word second rest other more)
+-- so none has a name
+none_named : (p : Rule → Bool) (rules : List Rule) → list_all is_placed rules ≡ true → find (λ a. not (is_some a.index) && p a) rules ≡ None
+none_named p [] placed = refl
+none_named p (a ∷ rules) placed =
+    let here : is_some a.index ≡ true = and_left (is_some a.index) _ (and_left (is_placed a) _ placed) in
+    rw here (none_named p rules (and_right (is_placed a) _ placed))
 
--- a command of one argument takes the words that the table gives it, and has the argument of the table
-pub one_taken : (name : Text) (words : List Text) → AreTexts words → value_in (one name) words ≡ argument_of words
-one_taken name [] texts = one_nothing name
-one_taken name (word ∷ words) texts = go (look_of word texts.0)
-  where
-    go : Look word → value_in (one name) (word ∷ words) ≡ argument_of (word ∷ words)
-    go (separator is) = subst (λ (w : Text). value_in (one name) (w ∷ words) ≡ argument_of (w ∷ words)) (sym is) (one_separated name words)
-    go (long dashed other option is_long) = one_long name word words option other is_long ∙ sym (no_dashed word words dashed other)
-    go (short dashed other no_long x xs is_short first first_is) =
-        one_short name word words x xs first other no_long is_short first_is ∙ sym (no_dashed word words dashed other)
-    go (plain dashed other no_long no_short) = plain_taken name word words texts.1 dashed other no_long no_short
+not_false : (b : Bool) → not b ≡ true → b ≡ false
+not_false true is = cc
+not_false false is = refl
 
-module _ {X : Type 0} (name : Text) (answer : Option X) where
-  abbrev pub none_answers : List Text → Option X
-  none_answers words = unless (fault_in (none name) words) answer
+-- where the walk is: what it holds, which argument is next, and whether the words that are left are taken whatever they look like
+abbrev pub stage : Held → ℕ → Bool → Walk
+stage h position trailing = record { held = h; waiting = idle; position = position; is_trailing = trailing; stopped = None }
 
-  none_separated : (words : List Text) → none_answers (codes "--" ∷ words) ≡ cond (has_no_argument (codes "--" ∷ words)) answer None
-  unfolding clap_on_literals
-  none_separated [] = refl
-  none_separated (word ∷ words) = refl
+module _ (rules : List Rule) (word : Text) (h : Held) where
+  abbrev held_after : Option Rule → Held
+  held_after None = h
+  held_after (Some a) = positional_held rules a word h
 
-  none_long : (word : Text) (words : List Text) (option : Text × Option Text) → is_separator word ≡ false → long_of word ≡ Some option
-      → none_answers (word ∷ words) ≡ None
-  unfolding clap_on_literals
-  none_long word words option other is_long = rw (other, is_long) refl
-
-  none_short : (word : Text) (words : List Text) (x : ℕ) (xs : Text) (first : ℕ) → is_separator word ≡ false → long_of word ≡ None
-      → short_of word ≡ Some (x ∷ xs) → slice_get (chars (x ∷ xs)) 0 ≡ Some first → none_answers (word ∷ words) ≡ None
-  unfolding clap_on_literals
-  none_short word words x xs first other no_long is_short first_is = rw (other, no_long, is_short, first_is) refl
-
-  none_plain : (word : Text) (words : List Text) → is_separator word ≡ false → long_of word ≡ None → short_of word ≡ None
-      → none_answers (word ∷ words) ≡ None
-  unfolding clap_on_literals
-  none_plain word words other no_long no_short = rw (other, no_long, no_short) refl
-
-  some_argument : (word : Text) (words : List Text) → is_separator word ≡ false → cond (has_no_argument (word ∷ words)) answer None ≡ None
-  some_argument word [] other = rw other refl
-  some_argument word (second ∷ words) other = refl
-
-  none_nothing : none_answers [] ≡ answer
-  unfolding clap_on_literals
-  none_nothing = refl
-
-  -- a command of no argument takes the words that the table gives it
-  pub none_taken : (words : List Text) → AreTexts words → none_answers words ≡ cond (has_no_argument words) answer None
-  none_taken [] texts = none_nothing
-  none_taken (word ∷ words) texts = go (look_of word texts.0)
+  skips_none : h.skip ≡ 0 → (o : Option Rule) → (held_after o).skip ≡ 0
+  skips_none none None = none
+  skips_none none (Some a) = go (is_pending a h.pending && takes_several a)
     where
-      go : Look word → none_answers (word ∷ words) ≡ cond (has_no_argument (word ∷ words)) answer None
-      go (separator is) =
-          subst (λ (w : Text). none_answers (w ∷ words) ≡ cond (has_no_argument (w ∷ words)) answer None) (sym is) (none_separated words)
-      go (long _ other option is_long) = none_long word words option other is_long ∙ sym (some_argument word words other)
-      go (short _ other no_long x xs is_short first first_is) =
-          none_short word words x xs first other no_long is_short first_is ∙ sym (some_argument word words other)
-      go (plain _ other no_long no_short) = none_plain word words other no_long no_short ∙ sym (some_argument word words other)
+      go : (b : Bool) → (cond b h (settled rules h)).skip ≡ 0
+      go true = none
+      go false = none
+
+abbrev place_after : Option Rule → ℕ → ℕ
+place_after None position = position
+place_after (Some a) position = next_position a position
+
+to_place : (rules : List Rule) (word : Text) (h : Held) (o : Option Rule) (position : ℕ) (trailing : Bool) → IsPlaced o
+    → to_positional rules o word (stage h position trailing) h ≡ stage (held_after rules word h o) (place_after o position) trailing
+to_place rules word h None position trailing placed = refl
+to_place rules word h (Some a) position trailing placed =
+    let plain = and_right (is_some a.index) _ placed in
+    let single = not_false (is_multiple a) (and_left (not (is_multiple a)) _ plain) in
+    let alone = not_false a.trailing_var_arg (and_right (not (is_multiple a)) _ plain) in
+    go trailing single alone
+  where
+    go : (b : Bool) → is_multiple a ≡ false → a.trailing_var_arg ≡ false
+        → to_positional rules (Some a) word (stage h position b) h ≡ stage (held_after rules word h (Some a)) (place_after (Some a) position) b
+    go true single alone = rw single refl
+    go false single alone = rw (single, alone) refl
+
+module _ {X : Type 0} (s : Shape) (answer : List Row → Option X) where
+  abbrev faults_at_end : Held → Kinds
+  faults_at_end h = or_else (settle_fault s.rules s.args_override_self h)
+      (or_else (defaults_fault (settled s.rules h).rows s.rules) (check_fault s (finished s.rules h) false))
+
+  -- the answer at the end of the words, from some stage on
+  abbrev pub answered : Walk → List Text → Option X
+  answered w words =
+      let end = (fold (walked s.rules []) w words).held in
+      unless (or_else (walk_fault s [] w words) (faults_at_end end)) (answer (finished s.rules end))
+
+  one_more : (w : Walk) (word : Text) (words : List Text)
+      → answered w (word ∷ words) ≡ unless (turn_fault s [] w word) (answered (walked s.rules [] w word) words)
+  unfolding walk_fault
+  one_more w word words = unless_in_turn (turn_fault s [] w word) _ _ _
+
+  at_end : (h : Held) (position : ℕ) → answered (stage h position false) [] ≡ answered (stage h position true) []
+  unfolding walk_fault
+  at_end h position = refl
+
+  at_separator : (h : Held) (position : ℕ) (words : List Text) → answered (stage h position false) (codes "--" ∷ words) ≡ answered (stage h position true) words
+  unfolding clap_on_literals
+  at_separator h position words = one_more (stage h position false) (codes "--") words
+
+  module _ (placed : list_all is_placed s.rules ≡ true) where
+    at_long : (h : Held) (position : ℕ) (word : Text) (words : List Text) (option : Text × Option Text) → is_separator word ≡ false → long_of word ≡ Some option
+        → answered (stage h position false) (word ∷ words) ≡ None
+    at_long h position word words option other is_long =
+        let unknown : turn_fault s [] (stage h position false) word ≡ UnknownArgument ∷ [] = rw (other, is_long, none_named (λ a. has_long a option.0) s.rules placed) refl in
+        one_more (stage h position false) word words
+        ∙ ap (λ (faults : Kinds). unless faults (answered (walked s.rules [] (stage h position false) word) words)) unknown
+
+    at_short : (h : Held) (position : ℕ) (word : Text) (words : List Text) (x : ℕ) (xs : Text) (first : ℕ) → h.skip ≡ 0 → is_separator word ≡ false
+        → long_of word ≡ None → short_of word ≡ Some (x ∷ xs) → slice_get (chars (x ∷ xs)) 0 ≡ Some first → answered (stage h position false) (word ∷ words) ≡ None
+    unfolding flags_fault
+    at_short h position word words x xs first none other no_long is_short first_is =
+        let unknown : turn_fault s [] (stage h position false) word ≡ UnknownArgument ∷ [] =
+        rw (other, no_long, is_short, none, first_is, none_named (λ a. has_short a first) s.rules placed) refl in
+        one_more (stage h position false) word words
+        ∙ ap (λ (faults : Kinds). unless faults (answered (walked s.rules [] (stage h position false) word) words)) unknown
+
+    -- a word that goes to the next argument
+    module _ (h : Held) (position : ℕ) (word : Text) where
+      abbrev next : Option Rule
+      next = arg_by_index s.rules position
+
+      abbrev after : Bool → Walk
+      after trailing = stage (held_after s.rules word h next) (place_after next position) trailing
+
+      walked_on : walked s.rules [] (stage h position true) word ≡ after true
+      unfolding walked
+      walked_on = to_place s.rules word h next position true (found_placed _ s.rules placed)
+
+      walked_plain : is_separator word ≡ false → long_of word ≡ None → short_of word ≡ None → walked s.rules [] (stage h position false) word ≡ after false
+      unfolding walked
+      walked_plain other no_long no_short =
+          rw (other, no_long, no_short) (to_place s.rules word h next position false (found_placed _ s.rules placed))
+
+      same_turn : is_separator word ≡ false → long_of word ≡ None → short_of word ≡ None
+          → turn_fault s [] (stage h position false) word ≡ turn_fault s [] (stage h position true) word
+      same_turn other no_long no_short = rw (other, no_long, no_short) refl
+
+      at_plain : (words : List Text) → is_separator word ≡ false → long_of word ≡ None → short_of word ≡ None
+          → answered (after false) words ≡ option_and_then (answered (after true)) (arguments_of words)
+          → answered (stage h position false) (word ∷ words)
+          ≡ option_and_then (answered (stage h position true)) (option_map (λ (rest : List Text). word ∷ rest) (arguments_of words))
+      at_plain words other no_long no_short so =
+          one_more (stage h position false) word words
+          ∙ ap₂ (λ (faults : Kinds) (w : Walk). unless faults (answered w words)) (same_turn other no_long no_short) (walked_plain other no_long no_short)
+          ∙ ap (unless (turn_fault s [] (stage h position true) word)) so ∙ go (arguments_of words)
+        where
+          go : (o : Option (List Text)) → unless (turn_fault s [] (stage h position true) word) (option_and_then (answered (after true)) o)
+              ≡ option_and_then (answered (stage h position true)) (option_map (λ (rest : List Text). word ∷ rest) o)
+          go None = unless_none (turn_fault s [] (stage h position true) word)
+          go (Some rest) =
+              ap (λ (w : Walk). unless (turn_fault s [] (stage h position true) word) (answered w rest)) (sym walked_on)
+              ∙ sym (one_more (stage h position true) word rest)
+
+    by_look : (h : Held) (position : ℕ) (word : Text) (words : List Text) → h.skip ≡ 0
+        → answered (after h position word false) words ≡ option_and_then (answered (after h position word true)) (arguments_of words) → Look word
+        → answered (stage h position false) (word ∷ words) ≡ option_and_then (answered (stage h position true)) (arguments_of (word ∷ words))
+    by_look h position word words none so (separator is) =
+        subst (λ (w : Text). answered (stage h position false) (w ∷ words) ≡ option_and_then (answered (stage h position true)) (arguments_of (w ∷ words))) (sym is)
+        (at_separator h position words)
+    by_look h position word words none so (long dashed other option is_long) = at_long h position word words option other is_long ∙ rw (other, dashed) refl
+    by_look h position word words none so (short dashed other no_long x xs is_short first first_is) =
+        at_short h position word words x xs first none other no_long is_short first_is ∙ rw (other, dashed) refl
+    by_look h position word words none so (plain dashed other no_long no_short) = at_plain h position word words other no_long no_short so ∙ rw (other, dashed) refl
+
+    from_stage : (h : Held) (position : ℕ) (words : List Text) → h.skip ≡ 0 → AreTexts words
+        → answered (stage h position false) words ≡ option_and_then (answered (stage h position true)) (arguments_of words)
+    from_stage h position [] none texts = at_end h position
+    from_stage h position (word ∷ words) none texts =
+        by_look h position word words none
+        (from_stage (held_after s.rules word h (next h position word)) (place_after (next h position word) position) words
+        (skips_none s.rules word h none (next h position word)) texts.1)
+        (look_of word texts.0)
+
+    -- clap takes the words as it would take their arguments after a `--`
+    pub taken : (words : List Text) → AreTexts words → unless (or_else (level_fault s [] nothing_held words false []) []) (answer (rows_after s.rules [] words))
+        ≡ option_and_then (answered (stage nothing_held 1 true)) (arguments_of words)
+    taken words texts = unless_either (level_fault s [] nothing_held words false []) [] _ ∙ from_stage nothing_held 1 words refl texts

@@ -95,3 +95,5 @@ pub mod RestoreByMap
 pub mod IngestByMap
 pub mod IngestTails
 pub mod Ran
+pub mod WorkJobs
+pub mod WorkKept

@@ -1,7 +1,7 @@
 -- What holds of calls one after the other, from what each keeps of the map that it finds.
-use Rattle.backup_engine.proofs.Prelude.{DoesCommand, ◌≡◌, ◌⊎◌, inl, inr, ℕ, zero, suc, ◌+◌, List, [], ◌∷◌, ◌++◌, Option, Some, None, refl, sym, ◌∙◌, subst, arith, AllByRecursion, KnownWith, DiskView, IsDurable, OnlyReads, Refusal, Memory, NoFile, BadName, TooLong, Full, Clash, WrongPart, DiskRead, DiskWrite, Corrupt, Missing, Numbers, NotAStore, Version, Damaged, AlreadyStore, WrongSize, Words, Sink, Script, Refused, HasNoCollisions, ByteSet, IsIn, IsOf, OpensAs, Stored, Store, Replied, Found, IsOfFound, MayStand, stored_in, Formats, CommandLine, Format, Ingest, Restore, Collect, TableLine, Single, Check, RefusedByFiles, RunsByFiles, status_by, SinceStart, Does, Promise, Call}
+use Rattle.backup_engine.proofs.Prelude.{DoesCommand, ◌≡◌, ◌⊎◌, inl, inr, ℕ, zero, suc, ◌+◌, List, [], ◌∷◌, ◌++◌, Option, Some, None, refl, sym, ◌∙◌, subst, arith, AllByRecursion, KnownWith, DiskView, IsDurable, OnlyReads, Refusal, Memory, NoFile, BadName, TooLong, Full, Clash, WrongPart, DiskRead, DiskWrite, Corrupt, Missing, Numbers, NotAStore, Version, Damaged, AlreadyStore, WrongSize, Words, Sink, Script, Refused, HasNoCollisions, ByteSet, IsIn, IsOf, OpensAs, Stored, Store, Replied, Found, IsOfFound, MayStand, stored_in, Formats, CommandLine, Format, Ingest, Restore, Collect, TableLine, Single, Work, alone_line, Check, RefusedByFiles, RunsByFiles, status_by, SinceStart, Does, Promise, Call}
 use Rattle.std.proofs.Common.{replicate}
-use Rattle.refusals.specs.declared.refusal.Refusal.TheVariants.{TooMany, Collecting, NotCollecting, Stopped, Unpinned, NoActor}
+use Rattle.refusals.specs.declared.refusal.Refusal.TheVariants.{TooMany, Collecting, NotCollecting, Stopped, Unpinned, NoActor, NotEmpty}
 use Rattle.reply_text.specs.declared.ending.Ending.{Ending}
 use Rattle.reply_text.specs.declared.ending.Ending.TheVariants.{Source, Line}
 use Rattle.reply_text.specs.Table.{status_of_refusal}
@@ -27,14 +27,15 @@ use Rattle.backup_engine.specs.Seen.{devices, disk_and_sink}
 
 -- a promise is what the call keeps, with the ending and the bytes that it names
 pub promised : (D : Type 0) (view : D → DiskView) → IsPromised D view
-promised D view c old new promise = go c.line promise
+promised D view c old new alone promise = go c.line alone promise
   where
-    go : (line : Option TableLine) → Promise D view line c.status (seen_by c (view old) (view new)) → (ending : Option Ending) × ((given : List ℕ) × ((rs : List Replied)
+    go : (line : Option TableLine) → alone_line line ≡ line → Promise D view line c.status (seen_by c (view old) (view new)) → (ending : Option Ending) × ((given : List ℕ) × ((rs : List Replied)
         × KeepsAs D view line (record c { ending = ending; given = given; rs = rs }) (view old) (view new)))
-    go None promise = promise
-    go (Some (Single command)) promise = promise
-    go (Some Run) promise = promise
-    go (Some Check) promise = (c.ending, (c.given, (c.rs, promise)))
+    go None alone promise = promise
+    go (Some (Single command)) alone promise = promise
+    go (Some Run) alone promise = promise
+    go (Some Check) alone promise = (c.ending, (c.given, (c.rs, promise)))
+    go (Some (Work load)) alone promise = absurd (let wrong : ◌≡◌ {A = Option TableLine} None (Some (Work load)) = alone in cc)
 
 -- the image can be opened as a map that has P
 abbrev pub OfSome : (List ℕ → Type 0) → (Stored → Type 0) → List ℕ → Type 0
@@ -167,6 +168,7 @@ module _ (S : List ℕ → Type 0) (P : Stored → Type 0) (c : Call) (m : Store
   leaves : (line : Option TableLine) → Answers line S c m v w → Stands (OfSome S (After P line c)) w
   leaves None stays = same_leads None (λ next. refl) stays
   leaves (Some Check) stays = same_leads (Some Check) (λ next. refl) stays
+  leaves (Some (Work load)) stays = same_leads (Some (Work load)) (λ next. refl) stays
   leaves (Some Run) runs = script_leaves runs
   leaves (Some (Single (Format slots))) stays = same_leads (Some (Single (Format slots))) (λ next. refl) stays
   leaves (Some (Single (Ingest name))) (store, is) = command_leaves (Ingest name) store is
@@ -179,6 +181,7 @@ module _ (S : List ℕ → Type 0) (P : Stored → Type 0) (c : Call) (m : Store
   crash_leaves : (line : Option TableLine) → Answers line S c m v w → (image : List ℕ) → SinceStart v w image → OfSome S P image ⊎ OfSome S (MayPass line c m) image
   crash_leaves None stays image since = inl (stands.1 image (stays.images image since))
   crash_leaves (Some Check) stays image since = inl (stands.1 image (stays.images image since))
+  crash_leaves (Some (Work load)) stays image since = inl (stands.1 image (stays.images image since))
   crash_leaves (Some Run) runs image since = script_crash runs image since
   crash_leaves (Some (Single (Format slots))) stays image since = inl (stands.1 image (stays.images image since))
   crash_leaves (Some (Single (Ingest name))) (store, is) image since = command_crash (Ingest name) store is image since
@@ -245,6 +248,7 @@ module _ (D : Type 0) (view : D → DiskView) (laws : ByTheMap D view) (among : 
     answers_line : (line : Option TableLine) → KeepsAs D view line c (view v) (view w) → Answers line (IsIn among) c m (view v) (view w)
     answers_line None keeps = read_stays (view v) (view w) (same_reads (view v) (view w) keeps.does.disk_is)
     answers_line (Some Check) keeps = read_stays (view v) (view w) keeps.reads.only
+    answers_line (Some (Work load)) keeps = absurd keeps
     answers_line (Some Run) keeps = (opens.store, keeps.does.by_files among (rested m opens.store) apart (given.cut (rested m opens.store)) At)
     answers_line (Some (Single (Format slots))) keeps =
         let none = formats_nothing (IsIn among) slots c m (view v) (view w) image told opens keeps.does.0 in
@@ -388,6 +392,7 @@ refused (Unpinned key) = λ is. cc
 refused AlreadyStore = λ is. cc
 refused (WrongSize want got) = λ is. cc
 refused NoActor = λ is. cc
+refused (NotEmpty files) = λ is. cc
 
 done_at_zero : (ending : Option Ending) → status_by ending ≡ 0 → ending ≡ None
 done_at_zero None is = refl

@@ -59,7 +59,7 @@ module _ (D : Type 0) (view : D → DiskView) (refusal : Refusal) (v w : DiskVie
   }
 
 -- there was no memory, before the disk was called
-unbegun : (v : DiskView) → IsNotRead Memory v v
+pub unbegun : (v : DiskView) → IsNotRead Memory v v
 unbegun v = record {
   cause = tt;
   given_up = record { parts = []; returned = tt; known = λ image told. tt; shows = λ image sized has store right. refl };
@@ -107,12 +107,12 @@ module _ (D : Type 0) (view : D → DiskView) (C : Type 0) (state : C → CoreSt
     opened_later (inr is) = later_on (lent first) (lent is.0) end is.1.0.later (read_later is.0 is.1.1)
 
     -- the same of what was lent
-    made_later : (before : MutBor D) → IsReadFrom (lent before) (state old) → IsLater (view before.now) w
+    pub made_later : (before : MutBor D) → IsReadFrom (lent before) (state old) → IsLater (view before.now) w
     made_later before read =
         let later = read_later before read in
         later_back _ _ (view before.now) w (below D view before n w later) later
 
-    read_holds : (before : MutBor D) → IsReadFrom (lent before) (state old) → Holds (view before.now) w
+    pub read_holds : (before : MutBor D) → IsReadFrom (lent before) (state old) → Holds (view before.now) w
     read_holds before read = holds_back _ _ (view before.now) w (holds C state (lent before) end old new (called before read) to_end)
 
     -- its lines, over all of the call

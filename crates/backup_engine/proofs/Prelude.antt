@@ -28,7 +28,7 @@ pub use Rattle.backup_engine.specs.Collecting.{CollectRun, WritesCollected}
 pub use Rattle.backup_engine.specs.Feeding.{Fills, IsFed, MayBe, SessionLaws, Stops, opens_of}
 pub use Rattle.backup_engine.specs.Frame.{KeepsOthers, KeepsRest, LiesBeside, MayFill, SameButSlotsOf}
 pub use Rattle.backup_engine.specs.Giving.{GivenSoFar, bytes_to_come}
-pub use Rattle.backup_engine.specs.Line.{Check, Collect, CommandLine, Format, Ingest, Restore, Single, TableLine, argument_of, has_no_argument, is_number, is_separator}
+pub use Rattle.backup_engine.specs.Line.{Check, Collect, CommandLine, Format, Ingest, Restore, Single, TableLine, Work, alone_line, arguments_of, is_number, is_separator}
 pub use Rattle.backup_engine.specs.LineValue.{command_value}
 pub use Rattle.backup_engine.specs.Lines.{lines_of, printed}
 pub use Rattle.backup_engine.specs.Lists.{Call}

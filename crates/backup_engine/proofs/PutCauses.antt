@@ -5,7 +5,7 @@ use Rattle.dd_disk.specs.Ending.{Done}
 use Rattle.reply_text.specs.declared.ending.Ending.{Ending}
 use Rattle.reply_text.specs.declared.ending.Ending.TheVariants.{Source}
 use Rattle.store_model.specs.Image.{names_of}
-use Rattle.script_runner.proofs.FaultsCounted.{step_went}
+use Rattle.session_turns.proofs.StepFaults.{step_went}
 use Rattle.backup_engine.specs.Storing.{IsStopped, IsTaken}
 use Rattle.backup_engine.proofs.Called.{Called}
 use Rattle.backup_engine.proofs.PutChanges.{IsOn, Puts, EndsBy, IsWayStep, AreUnless, last_is, ways_of, put_changes}

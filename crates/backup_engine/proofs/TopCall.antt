@@ -1,9 +1,11 @@
 -- What the top call promises, from what a command keeps.
-use Rattle.backup_engine.proofs.Prelude.{◌≡◌, inl, inr, refl, sym, subst, ℕ, List, [], Option, Some, None, Err, DiskView, reads_here, SourceView, SinkView, Replied, Memory, Words, Refused, ReadsTellScripts, CommandLine, TableLine, Single, Check, Format, Ingest, Restore, Collect, status_by, IsCollect, IsDelete, IsIngest, IsListing, IsRestore, IsSameDisk, Does, Promise}
+use Rattle.backup_engine.proofs.Prelude.{◌≡◌, inl, inr, refl, sym, ap, ◌∙◌, option_map, subst, ℕ, List, [], Option, Some, None, Err, DiskView, reads_here, SourceView, SinkView, Replied, Memory, Words, Refused, ReadsTellScripts, CommandLine, TableLine, Single, Check, Work, Format, Ingest, Restore, Collect, status_by, IsCollect, IsDelete, IsIngest, IsListing, IsRestore, IsSameDisk, Does, Promise}
 use Rattle.reply_text.specs.declared.ending.Ending.{Ending}
 use Rattle.reply_text.specs.Table.{status_of}
 use Rattle.backup_engine.specs.Line.{Run, Delete}
 use Rattle.backup_engine.specs.Line as table
+use Rattle.backup_engine.specs.LineValue.{line_value}
+use Rattle.backup_engine.specs.declared.words.Line.{Line}
 use Rattle.backup_engine.specs.Noted.{IsNoted, AreNoted}
 use Rattle.backup_engine.specs.Seen.{Seen, devices}
 use Rattle.backup_engine.specs.TopCall.{KeepsLine}
@@ -12,6 +14,8 @@ use Rattle.backup_engine.proofs.Opens.{does_without_memory, runs_without_memory}
 use Rattle.backup_engine.proofs.ScriptKept.{no_memory_kept}
 use Rattle.backup_engine.proofs.SinglesRun.{unbegun_speaks}
 use Rattle.backup_engine.proofs.SourceRuns.{given_of, given_told}
+use Rattle.backup_engine.proofs.WorkKept.{work_without_memory}
+use Rattle.backup_engine.specs.Working.{plan_of}
 
 same_disk : (v : DiskView) → IsSameDisk v v
 same_disk v = record {
@@ -112,6 +116,10 @@ module _ (D : Type 0) (view : D → DiskView) (status : ℕ) (v : DiskView) (sou
     Some (Refused Memory),
     ([], ([], record { status_is = is; noted = noted; does = runs_without_memory D view v source sink (no_memory_kept v source sink laws) })),
   )
+  memory_promise (Some (Work load)) = (
+    Some (Refused Memory),
+    ([], ([], record { status_is = is; noted = noted; does = (None, (work_without_memory D view (plan_of load) v source sink, refl)) })),
+  )
   memory_promise (Some Check) = record {
     ended = Err (Refused Memory);
     status_is = is;
@@ -142,3 +150,8 @@ keeps_line D view said status ending v w source source_now sink sink_now notes n
 pub promise_as : (D : Type 0) (view : D → DiskView) (line said : Option TableLine) (status : ℕ) (seen : Seen) → line ≡ said → Promise D view said status seen →
     Promise D view line status seen
 promise_as D view line said status seen is promise = subst (λ (l : Option TableLine). Promise D view l status seen) (sym is) promise
+
+-- the line of the table, by the line that was read
+pub line_as : {read : Option Line} {line said : Line} {of : Option TableLine} → option_map line_value read ≡ of → read ≡ Some line → line ≡ said
+    → of ≡ Some (line_value said)
+line_as is read_is said_is = sym is ∙ ap (option_map line_value) read_is ∙ ap (λ (l : Line). Some (line_value l)) said_is

@@ -27,3 +27,4 @@ pub mod Feeding
 pub mod TopCall
 pub mod AnswersByMap
 pub mod Words
+pub mod Working

@@ -22,7 +22,7 @@ use Rattle.core_machine.specs.Files.{MayStand, stored_in}
 use Rattle.store_model.specs.Standing.{IsSegmentOf}
 use Rattle.backup_engine.specs.AnyDisk.{Formats}
 use Rattle.backup_engine.specs.Checking.{ChecksDisk}
-use Rattle.backup_engine.specs.Line.{CommandLine, Format, TableLine, Single, Run, Check}
+use Rattle.backup_engine.specs.Line.{CommandLine, Format, TableLine, Single, Run, Check, Work, alone_line}
 use Rattle.backup_engine.specs.Promise.{SinceStart, Stands}
 use Rattle.backup_engine.specs.Seen.{Seen, disk_and_sink}
 use Rattle.backup_engine.specs.TopCall.{Promise, KeepsLine}
@@ -58,8 +58,10 @@ seen_by c disk disk_now = record {
   notes_now = c.notes_now;
 }
 
+-- (no call of a list starts threads)
 abbrev pub KeepsAs : (D : Type 0) → (D → DiskView) → Option TableLine → Call → DiskView → DiskView → Type 0
 KeepsAs D view (Some Check) c disk disk_now = ChecksDisk c.status (seen_by c disk disk_now)
+KeepsAs D view (Some (Work load)) c disk disk_now = ⊥
 KeepsAs D view line c disk disk_now = KeepsLine D view line c.ending c.given c.rs c.status (seen_by c disk disk_now)
 
 -- what `Promise` says of a call, with its ending, what was given and which lines were run (specs/TopCall.antt)
@@ -71,9 +73,9 @@ abbrev pub CallRun : (D : Type 0) → (D → DiskView) → List Call → D → D
 CallRun D view [] old new = new ≡ old
 CallRun D view (c ∷ cs) old new = (mid : D) × (KeepsCall D view c (view old) (view mid) × CallRun D view cs mid new)
 
--- What `backup` promises of a call is that, for some ending, bytes given and lines: so calls of it make such a run.
+-- What `backup` promises of a call that starts no threads is that, for some ending, bytes given and lines: so calls of it make such a run.
 abbrev pub IsPromised : (D : Type 0) → (D → DiskView) → Type 0
-IsPromised D view = (c : Call) (old new : D)
+IsPromised D view = (c : Call) (old new : D) → alone_line c.line ≡ c.line
     → Promise D view c.line c.status (seen_by c (view old) (view new))
     → (ending : Option Ending) × ((given : List ℕ) × ((rs : List Replied)
     × KeepsCall D view (record c { ending = ending; given = given; rs = rs }) (view old) (view new)))

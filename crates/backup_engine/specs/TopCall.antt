@@ -12,16 +12,18 @@ use Rattle.reply_text.specs.declared.ending.Ending.{Ending}
 use Rattle.reply_text.specs.declared.ending.Ending.TheVariants.{Words, Refused}
 use Rattle.recovery.specs.Formatting.{IsLeftByFormat, IsBlankOrFormatted}
 use Rattle.recovery.specs.Room.{RoomMade, RoomUnmade}
+use Rattle.shared_work.specs.Whole.{Plan}
 use Rattle.backup_engine.specs.AnyDisk.{Holds, OnAnyDisk, FindsBeforeWriting, Took}
 use Rattle.backup_engine.specs.ByFiles.{FailsAlone, RunsEachByFiles}
 use Rattle.backup_engine.specs.Checking.{ChecksDisk}
 use Rattle.backup_engine.specs.Frame.{KeepsOthers}
-use Rattle.backup_engine.specs.Line.{CommandLine, Format, TableLine, Single, Run, Check}
+use Rattle.backup_engine.specs.Line.{CommandLine, Format, TableLine, Single, Run, Check, Work}
 use Rattle.backup_engine.specs.Noted.{AreNoted, status_by}
 use Rattle.backup_engine.specs.Promise.{SinceStart}
 use Rattle.backup_engine.specs.Script.{KeepsScript}
 use Rattle.backup_engine.specs.Seen.{Devices, Seen, devices}
 use Rattle.backup_engine.specs.Singles.{SpeaksAs}
+use Rattle.backup_engine.specs.Working.{KeepsWork, Ran, WorkByFiles, plan_of}
 
 abbrev pub ending_in : Result Unit Ending → Option Ending
 ending_in (Ok u) = None
@@ -118,12 +120,22 @@ pub record RunsScript (D : Type 0) (view : D → DiskView) (rs : List Replied) (
       ending saw.disk saw.disk_now
       ⊎ MakesNoRoom rs ending saw.disk saw.disk_now saw.source saw.source_now saw.sink saw.sink_now
 
+-- Workers that store generated files: what is done is one throughout.
+pub record RunsWork (D : Type 0) (view : D → DiskView) (plan : Plan) (ran : Option Ran) (ending : Option Ending) (saw : Devices)
+    : Type 0 where
+  pub by_files : WorkByFiles plan ran ending saw.disk saw.disk_now
+  pub fails_alone : ran ≡ None → FailsAlone ending [] saw.disk
+  pub way : OnceThereWasRoom D view (λ v. KeepsWork plan ran ending (record saw { disk = v })) ending saw.disk saw.disk_now
+      ⊎ ((ran ≡ None) × MakesNoRoom [] ending saw.disk saw.disk_now saw.source saw.source_now saw.sink saw.sink_now)
+  pub source_is : saw.source_now ≡ saw.source
+
 -- What a line of the table does, but a `check`: see `Promise`. A disk is anything that has a view.
 abbrev pub Does : (D : Type 0) → (D → DiskView) → Option TableLine → List ℕ → List Replied → Option Ending → Devices → Type 0
 Does D view None given rs ending saw = DoesNothing ending saw.disk saw.disk_now saw.source saw.source_now saw.sink saw.sink_now
 Does D view (Some (Single (Format slots))) given rs ending saw = Keeps (Format slots) given ending saw × (rs ≡ [])
 Does D view (Some (Single command)) given rs ending saw = DoesCommand D view command given rs ending saw
 Does D view (Some Run) given rs ending saw = RunsScript D view rs ending saw
+Does D view (Some (Work load)) given rs ending saw = (ran : Option Ran) × (RunsWork D view (plan_of load) ran ending saw × (rs ≡ []))
 Does D view (Some Check) given rs ending saw = ⊥
 
 -- How the call ended, what the source gave, and which lines were run, are one throughout.

@@ -11,6 +11,7 @@ mod ingest;
 mod laws;
 mod lent;
 mod listing;
+mod load_words;
 mod putting;
 mod reply;
 mod restore;
@@ -18,6 +19,7 @@ mod script;
 mod storing;
 mod top_call;
 mod words;
+mod working;
 
 pub use laws::{a_command_answers_by_the_map, commands_follow_the_map};
 pub use top_call::{backup, backup_alone, size_of_format};

@@ -1,9 +1,11 @@
 //! The top call.
 ghost use Rattle.std.specs.Prelude.{◌≡◌, Some, map, string_bytes, IfOk, List, ℕ};
 ghost use Rattle.dd_disk.specs.View.{IsLater};
+ghost use Rattle.dd_io.specs.Flow.{SourceView};
 ghost use Rattle.store_machine.specs.Commands.{Replied};
 ghost use Rattle.reply_text.specs.Table.{status_of as table_status};
-ghost use Rattle.backup_engine.specs.Line.{Single, line_of};
+ghost use Rattle.backup_engine.specs.Checking.{ChecksDisk};
+ghost use Rattle.backup_engine.specs.Line.{Single, alone_line, line_of};
 ghost use Rattle.backup_engine.specs.LineValue.{command_value, IsRightCommand, size_made};
 ghost use Rattle.backup_engine.specs.Noted.{AreNoted, IsNoted, status_by};
 ghost use Rattle.backup_engine.specs.TopCall.{Promise, Does, ending_in};
@@ -18,22 +20,34 @@ use crate::listing::list;
 use crate::restore::restore;
 use crate::script::run;
 use crate::words::{Command, Line, read_words};
+use crate::working::work;
 use dd_disk::Disk;
 use dd_io::{Sink, Source};
 use disk_format::size_of;
+use ingest_workers::Gate;
 use refusals::Refusal;
 use reply_text::{Ending, status_of, write_fault};
 use script_lines::reads_tell_scripts;
 use std::alloc::{AllocError, Global};
+use std::sync::Wait;
+use std::thread::Threads;
 
 /// Runs one command, by its words, over a disk, and gives the exit status (docs/FORMAT.md, 'Commands').
 ///
 /// `ingest` reads `source`, to its end where it is done; the reply, or the bytes of the file that is restored, goes to `sink`. `run`
 /// reads a script from `source`, and replies to each line as it ends (docs/FORMAT.md, 'Scripts'). Words that are no line of the table
 /// are 2, and so is a script that is none; a fault of the source is 5, of the sink 6; a refusal has its own status, and so has want of
-/// memory, also for the words. `check` writes a line for each damage as it is found, and is 7 where there is one. `notes` get a line where
-/// the status isn't 0, but for that; a failure of theirs changes no status.
-pub fn backup<R, D: Disk + Send, S: Source, K: Sink, Q: Sink>(
+/// memory, also for the words. `work` runs workers in threads of their own, each of whose jobs stands between the two calls of `gate`, and
+/// promises what it promises if it returns. `check` writes a line for each damage as it is found, and is 7 where there is one. `notes` get a
+/// line where the status isn't 0, but for that; a failure of theirs changes no status.
+pub fn backup<
+    D: Disk + Send,
+    S: Source,
+    K: Sink,
+    Q: Sink,
+    G: Gate + Sync,
+    R: Threads + Wait + Sync,
+>(
     rt: &R,
     alloc: Global,
     words: &[String],
@@ -41,31 +55,7 @@ pub fn backup<R, D: Disk + Send, S: Source, K: Sink, Q: Sink>(
     source: &mut S,
     sink: &mut K,
     notes: &mut Q,
-) -> u8
-    ensures promise { Promise D D.view (line_of (map string_bytes words.now)) result (record {
-      disk = D.view disk.old;
-      disk_now = D.view disk.new;
-      source = S.view source.old;
-      source_now = S.view source.new;
-      sink = K.view sink.old;
-      sink_now = K.view sink.new;
-      notes = Q.view notes.old;
-      notes_now = Q.view notes.new;
-    }) }
-    ensures later { IsLater (D.view disk.old) (D.view disk.new) }
-{
-    backup_alone(rt, alloc, words, disk, source, sink, notes)
-}
-
-/// `backup` for the commands that start no threads.
-pub fn backup_alone<R, D: Disk + Send, S: Source, K: Sink, Q: Sink>(
-    _rt: &R,
-    alloc: Global,
-    words: &[String],
-    disk: &mut D,
-    source: &mut S,
-    sink: &mut K,
-    notes: &mut Q,
+    gate: &G,
 ) -> u8
     ensures promise { Promise D D.view (line_of (map string_bytes words.now)) result (record {
       disk = D.view disk.old;
@@ -88,10 +78,44 @@ pub fn backup_alone<R, D: Disk + Send, S: Source, K: Sink, Q: Sink>(
     match line {
         Line::Single(command) => conclude(notes, run_command(alloc, &command, disk, source, sink)),
         Line::Run => conclude(notes, run(alloc, disk, source, sink)),
-        Line::Check => match check(alloc, disk, sink) {
-            Ok(status) => status,
-            Err(ending) => give_up(notes, &ending),
-        },
+        Line::Check => check_disk(alloc, disk, sink, notes),
+        Line::Work(load) => conclude(notes, work(rt, alloc, disk, sink, &load, gate)),
+    }
+}
+
+/// `backup` for the commands that start no threads: the words of another are no line of the table here.
+pub fn backup_alone<R, D: Disk + Send, S: Source, K: Sink, Q: Sink>(
+    _rt: &R,
+    alloc: Global,
+    words: &[String],
+    disk: &mut D,
+    source: &mut S,
+    sink: &mut K,
+    notes: &mut Q,
+) -> u8
+    ensures promise { Promise D D.view (alone_line (line_of (map string_bytes words.now))) result (record {
+      disk = D.view disk.old;
+      disk_now = D.view disk.new;
+      source = S.view source.old;
+      source_now = S.view source.new;
+      sink = K.view sink.old;
+      sink_now = K.view sink.new;
+      notes = Q.view notes.old;
+      notes_now = Q.view notes.new;
+    }) }
+    ensures later { IsLater (D.view disk.old) (D.view disk.new) }
+{
+    reads_tell_scripts();
+    let found = match read_words(alloc, words) {
+        Ok(Some(line)) => line,
+        Ok(None) => return give_up(notes, &Ending::Words),
+        Err(_error) => return give_up(notes, &Ending::Refused(Refusal::Memory)),
+    };
+    match found {
+        Line::Single(command) => conclude(notes, run_command(alloc, &command, disk, source, sink)),
+        Line::Run => conclude(notes, run(alloc, disk, source, sink)),
+        Line::Check => check_disk(alloc, disk, sink, notes),
+        Line::Work(_) => give_up(notes, &Ending::Words),
     }
 }
 
@@ -127,6 +151,31 @@ fn run_command<D: Disk, S: Source, K: Sink>(
         Command::Delete(name) => delete(alloc, disk, sink, name),
         Command::List => list(alloc, disk, sink),
         Command::Collect(percent) => collect(alloc, disk, sink, *percent),
+    }
+}
+
+// Inspects the disk.
+fn check_disk<D: Disk, K: Sink, Q: Sink>(
+    alloc: Global,
+    disk: &mut D,
+    sink: &mut K,
+    notes: &mut Q,
+) -> u8
+    ensures checks { (source : SourceView) → ChecksDisk result (record {
+      disk = D.view disk.old;
+      disk_now = D.view disk.new;
+      source = source;
+      source_now = source;
+      sink = K.view sink.old;
+      sink_now = K.view sink.new;
+      notes = Q.view notes.old;
+      notes_now = Q.view notes.new;
+    }) }
+    ensures later { IsLater (D.view disk.old) (D.view disk.new) }
+{
+    match check(alloc, disk, sink) {
+        Ok(status) => status,
+        Err(ending) => give_up(notes, &ending),
     }
 }
 

@@ -1,11 +1,12 @@
 //! The words of a command line.
 ghost use Rattle.std.specs.Prelude.{◌≡◌, false, map, option_map, IfOk, IfSome, string_bytes};
-ghost use Rattle.clap.specs.Words.{app_of, rule_of, subcommand_rows_of};
+ghost use Rattle.clap.specs.Words.{app_of, found_of, rows_of, rule_of, subcommand_rows_of};
 ghost use Rattle.disk_format.specs.Layout.{IsSlotCount};
 ghost use Rattle.backup_engine.specs.Line.{line_of, command_of, all_digits, begins_as_number, is_number, percent_of, slots_of};
-ghost use Rattle.backup_engine.specs.LineValue.{command_value, line_value, IsRightCommand, IsRightLine};
-ghost use Rattle.backup_engine.specs.Words.{argument_rule, line_matched, line_named, table_app, with_none, with_one};
+ghost use Rattle.backup_engine.specs.LineValue.{command_value, line_value, load_value, IsRightCommand, IsRightLine, IsRightLoad};
+ghost use Rattle.backup_engine.specs.Words.{argument_rule, line_found, line_matched, line_named, load_matched, table_app, with_load, with_none, with_one};
 
+use crate::load_words::{Load, read_load};
 use actor_parts::Percent;
 use clap::error::ErrorKind;
 use clap::{Arg, ArgAction, ArgMatches};
@@ -36,15 +37,18 @@ pub(crate) enum Line<'a> {
     Run,
     /// The disk is inspected.
     Check,
+    /// Workers store generated files.
+    Work(Load),
 }
 
 /// The line of the table that the words are, if they are one, or want of memory.
 ///
 /// clap reads them: a line comes only where clap took the words, and the line is the subcommand that it met, with its argument. No
 /// check by hand stands beside it, since clap's contract says for such a command which words it takes and what it finds in them, and
-/// these are proved to be the words and the values of the table (`line_of`): a last `--` is passed over, a word that begins with a dash
-/// is taken after `--` alone, and a request for help or a version is refused as any other word. Only how a word of `format` or `collect`
-/// spells a number is looked at here (`slot_count`, `percentage`). Each error of clap's but want of memory says that the words are no line.
+/// these are proved to be the words and the values of the table (`line_of`): a first `--` is passed over, a word that begins with a dash
+/// is taken after `--` alone, and a request for help or a version is refused as any other word. Only how a word of `format`, `collect` or
+/// `work` spells a number is looked at here (`slot_count`, `percentage`, `read_load`). Each error of clap's but want of memory says that
+/// the words are no line.
 pub(crate) fn read_words<'a>(
     alloc: Global,
     words: &'a [String],
@@ -78,7 +82,8 @@ fn table<'a>(alloc: Global) -> Result<clap::Command<'a>, AllocError>
     let command = with_argument(alloc, command, "collect")?;
     let command = without_argument(alloc, command, "list")?;
     let command = without_argument(alloc, command, "run")?;
-    without_argument(alloc, command, "check")
+    let command = without_argument(alloc, command, "check")?;
+    with_arguments_of_load(alloc, command)
 }
 
 // One more subcommand, with one argument.
@@ -89,17 +94,31 @@ fn with_argument<'a>(
 ) -> Result<clap::Command<'a>, AllocError>
     ensures { IfOk result (λ more. app_of more ≡ with_one (app_of command.entry) name.entry.now) }
 {
-    command.subcommand(clap::Command::new(alloc, name).arg(argument(alloc))?)
+    command.subcommand(clap::Command::new(alloc, name).arg(argument(alloc, "argument"))?)
+}
+
+// One more subcommand, with the five arguments of a load.
+fn with_arguments_of_load<'a>(
+    alloc: Global,
+    command: clap::Command<'a>,
+) -> Result<clap::Command<'a>, AllocError>
+    ensures { IfOk result (λ more. app_of more ≡ with_load (app_of command.entry)) }
+{
+    let work = clap::Command::new(alloc, "work")
+        .arg(argument(alloc, "workers"))?
+        .arg(argument(alloc, "seed"))?
+        .arg(argument(alloc, "files"))?
+        .arg(argument(alloc, "bytes"))?
+        .arg(argument(alloc, "percent"))?;
+    command.subcommand(work)
 }
 
 // An argument that has to be there, as one word.
-fn argument<'a>(alloc: Global) -> Arg<'a>
-    ensures rule { rule_of result ≡ argument_rule }
+fn argument<'a>(alloc: Global, id: &'a str) -> Arg<'a>
+    ensures rule { rule_of result ≡ argument_rule id.entry.now }
     ensures local { result.global ≡ false }
 {
-    Arg::new(alloc, "argument")
-        .required(true)
-        .action(ArgAction::Set)
+    Arg::new(alloc, id).required(true).action(ArgAction::Set)
 }
 
 // One more subcommand, with no argument.
@@ -113,13 +132,40 @@ fn without_argument<'a>(
     command.subcommand(clap::Command::new(alloc, name))
 }
 
-// The line that a subcommand is, with the value of its argument.
+// The line that a subcommand is, with the values of its arguments.
 fn matched_line<'a>(matches: &ArgMatches<'a>) -> Option<Line<'a>>
     ensures line { option_map line_value result ≡ line_matched (subcommand_rows_of matches.now) }
     ensures right { IfSome result IsRightLine }
 {
     let (name, inner) = matches.subcommand()?;
-    named_line(name, inner.get_str("argument"))
+    found_line(name, inner)
+}
+
+fn found_line<'a>(name: &str, inner: &ArgMatches<'a>) -> Option<Line<'a>>
+    ensures line { option_map line_value result ≡ line_found name.now (rows_of (found_of inner.now)) }
+    ensures right { IfSome result IsRightLine }
+{
+    if name == "work" {
+        match matched_load(inner) {
+            Some(load) => Some(Line::Work(load)),
+            None => None,
+        }
+    } else {
+        named_line(name, inner.get_str("argument"))
+    }
+}
+
+fn matched_load(matches: &ArgMatches<'_>) -> Option<Load>
+    ensures load { option_map load_value result ≡ load_matched (rows_of (found_of matches.now)) }
+    ensures right { IfSome result IsRightLoad }
+{
+    read_load(
+        matches.get_str("workers")?,
+        matches.get_str("seed")?,
+        matches.get_str("files")?,
+        matches.get_str("bytes")?,
+        matches.get_str("percent")?,
+    )
 }
 
 fn named_line<'a>(name: &str, argument: Option<&'a str>) -> Option<Line<'a>>
@@ -170,7 +216,7 @@ fn all_digits(word: &str) -> bool
 }
 
 // Decimal digits with no sign and no leading zero.
-fn is_number(word: &str) -> bool
+pub(crate) fn is_number(word: &str) -> bool
     ensures { result ≡ is_number word.now }
 {
     all_digits(word) && begins_as_number(word)
@@ -197,7 +243,7 @@ fn slot_count(word: &str) -> Option<u32>
 }
 
 // The percentage that a word stands for, if it does.
-fn percentage(word: &str) -> Option<Percent>
+pub(crate) fn percentage(word: &str) -> Option<Percent>
     ensures { result ≡ percent_of word.now }
 {
     if !is_number(word) {

@@ -4,10 +4,13 @@
 use backup_engine::{backup, size_of_format};
 use dd_disk::FileDisk;
 use dd_io::{Source, StdSink, StdSource};
+use ingest_workers::OpenGate;
 use std::env;
 use std::fs::{self, File, OpenOptions};
 use std::io::{self, BufReader, ErrorKind, Write};
 use std::process::ExitCode;
+use std::sync::Wait;
+use std::thread::Threads;
 use thiserror::Error;
 
 /// How many bytes are read of standard input at once, where it has as many: a file is given to a session in pieces of 4,096 bytes.
@@ -37,7 +40,7 @@ impl Failure {
 }
 
 fn main(rt: HostRuntime) -> ExitCode {
-    let status = match run(&rt) {
+    let status = match run(&rt, &rt) {
         Ok(status) => status,
         Err(failure) => {
             // A failure of standard error changes no status.
@@ -48,7 +51,8 @@ fn main(rt: HostRuntime) -> ExitCode {
     ExitCode::from(status)
 }
 
-fn run(rt: &HostRuntime) -> Result<u8, Failure> {
+// `threads` is the leave to start them, and to wait, which the runtime has in `main` alone.
+fn run<R: Threads + Wait + Sync>(rt: &HostRuntime, threads: &R) -> Result<u8, Failure> {
     let words = read_words(rt)?;
     let (_program, words) = words.split_first().ok_or(Failure::Words)?;
     let (path, command) = words.split_first().ok_or(Failure::Words)?;
@@ -56,7 +60,7 @@ fn run(rt: &HostRuntime) -> Result<u8, Failure> {
     let input = BufReader::with_capacity(rt.alloc(), READ_AHEAD, rt.stdin()).map_err(failure_of)?;
     let mut disk = open_disk(rt, path.as_str(), command)?;
     let mut source = StdSource::new(input);
-    Ok(run_command(rt, command, &mut disk, &mut source))
+    Ok(run_command(rt, threads, command, &mut disk, &mut source))
 }
 
 // The words of the command line, the program's name first. Where they can't be had they are faulty.
@@ -133,15 +137,25 @@ fn failure_of(error: io::Error) -> Failure {
     }
 }
 
-fn run_command<S: Source>(
+fn run_command<S: Source, R: Threads + Wait + Sync>(
     rt: &HostRuntime,
+    threads: &R,
     command: &[String],
     disk: &mut FileDisk,
     source: &mut S,
 ) -> u8 {
     let mut sink = StdSink::new(rt.stdout());
     let mut notes = StdSink::new(rt.stderr());
-    let status = backup(rt, rt.alloc(), command, disk, source, &mut sink, &mut notes);
+    let status = backup(
+        threads,
+        rt.alloc(),
+        command,
+        disk,
+        source,
+        &mut sink,
+        &mut notes,
+        &OpenGate,
+    );
     // What the streams hold back is written here: a reply that is lost now is a fault of the sink too.
     if rt.stdout().flush().is_err() && has_replied(command, status) {
         let _written = eprintln!(rt; "fault sink");

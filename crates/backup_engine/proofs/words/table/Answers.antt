@@ -1,5 +1,5 @@
 use Rattle.backup_engine.proofs.Prelude.{codes, true, ◌≡◌, ◌∙◌, ap, IfOk-weaker, App, app_of}
-use Rattle.backup_engine.specs.Words.{no_commands, with_none, with_one}
+use Rattle.backup_engine.specs.Words.{no_commands, with_load, with_none, with_one}
 use Rattle.backup_engine.proofs.words.table.Goals as goal
 
 pub returns : goal.returns
@@ -27,6 +27,5 @@ returns c =
     let collect_is = c.in_ok-command-5.ensures ∙ ap (λ (a : App). with_one a (codes "collect")) delete_is in
     let list_is = c.in_ok-command-6.ensures ∙ ap (λ (a : App). with_none a (codes "list")) collect_is in
     let run_is = c.in_ok-command-7.ensures ∙ ap (λ (a : App). with_none a (codes "run")) list_is in
-    IfOk-weaker c.without_argument-3.result _ _
-    (λ more h. h ∙ ap (λ (a : App). with_none a (codes "check")) run_is)
-    c.without_argument-3.ensures
+    let check_is = c.in_ok-command-8.ensures ∙ ap (λ (a : App). with_none a (codes "check")) run_is in
+    IfOk-weaker c.with_arguments_of_load.result _ _ (λ more h. h ∙ ap with_load check_is) c.with_arguments_of_load.ensures

@@ -4,34 +4,38 @@ use crate::scripts::{add_replied, add_replies, script_in, script_of};
 use backup_engine::{backup, backup_alone};
 use dd_disk::Disk;
 use dd_io::{MemSink, MemSource};
+use ingest_workers::OpenGate;
 use std::alloc::Global;
+use std::sync::Wait;
+use std::thread::Threads;
 use transcripts::{Fault, Text, add_piece, bytes_of, number, word_of, words_of};
 
 /// What came of a chain: the answers of its items, parted as they are.
-pub(crate) fn answers_of<D: Disk + Send>(
-    rt: &HostRuntime,
+pub(crate) fn answers_of<D: Disk + Send, R: Threads + Wait + Sync>(
+    rt: &R,
+    alloc: Global,
     disk: &mut D,
     chain: &str,
 ) -> Result<String, Fault> {
-    let mut text = Text::new(rt.alloc());
+    let mut text = Text::new(alloc);
     for item in chain.split(" ; ") {
         text.part_by(" ; ");
-        answer(rt, disk, item, &mut text)?;
+        answer(rt, alloc, disk, item, &mut text)?;
     }
     Ok(text.whole()?)
 }
 
 /// An item is a call of the disk, a script, or another command.
-fn answer<D: Disk + Send>(
-    rt: &HostRuntime,
+fn answer<D: Disk + Send, R: Threads + Wait + Sync>(
+    rt: &R,
+    alloc: Global,
     disk: &mut D,
     item: &str,
     text: &mut Text,
 ) -> Result<(), Fault> {
-    let alloc = rt.alloc();
     if let Some((words, lines)) = script_in(item) {
         let run = script_run(alloc, words, lines)?;
-        add_run(rt, disk, run, text);
+        add_run(rt, alloc, disk, run, text);
         return Ok(());
     }
     let words = words_of(alloc, item)?;
@@ -52,7 +56,7 @@ fn answer<D: Disk + Send>(
         }
         words => {
             let run = run_of(alloc, words)?;
-            add_run(rt, disk, run, text);
+            add_run(rt, alloc, disk, run, text);
         }
     }
     Ok(())
@@ -169,9 +173,14 @@ fn add_option(run: &mut Run, script: &str) -> Result<(), Fault> {
 }
 
 /// Runs the words over a disk. The answer is the status, then what went to the sink, then the notes; of scripts as `add_replies` has them,
-/// and the lines of a list or a check as those are.
-fn add_run<D: Disk + Send>(rt: &HostRuntime, disk: &mut D, run: Run, text: &mut Text) {
-    let alloc = rt.alloc();
+/// and the lines of a list, a check or a generated load as those are.
+fn add_run<D: Disk + Send, R: Threads + Wait + Sync>(
+    rt: &R,
+    alloc: Global,
+    disk: &mut D,
+    run: Run,
+    text: &mut Text,
+) {
     let mut source = MemSource::in_pieces(run.source, run.source_fails, (run.most as usize).max(1));
     let mut sink = MemSink::new(alloc, run.sink_fails);
     let mut notes = MemSink::new(alloc, run.notes_fails);
@@ -194,13 +203,14 @@ fn add_run<D: Disk + Send>(rt: &HostRuntime, disk: &mut D, run: Run, text: &mut 
             &mut source,
             &mut sink,
             &mut notes,
+            &OpenGate,
         )
     };
     text.add_number(u64::from(status));
     let is_done = status == 0;
     match command_of(&run.words) {
         "run" => return add_replies(text, sink.bytes(), notes.bytes(), is_done),
-        "list" | "check" => add_replied(text, sink.bytes(), is_done),
+        "list" | "check" | "work" => add_replied(text, sink.bytes(), is_done),
         _ => add_stream(text, sink.bytes(), is_done),
     }
     add_stream(text, notes.bytes(), false);

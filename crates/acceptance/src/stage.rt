@@ -7,6 +7,8 @@ use dd_disk::{Asked, BlindDisk, FileDisk, Fill, MemDisk};
 use std::alloc::Global;
 use std::fs::File;
 use std::io;
+use std::sync::Wait;
+use std::thread::Threads;
 use transcripts::{
     FILLS, Fault, Stage, Text, add_piece, by_fill, bytes_of, change, fill_of, number, numbers_of,
     words_of,
@@ -49,13 +51,29 @@ impl Stage for Disks {
     }
 
     // A call of the disk, a chain over a disk, or the size of a format.
-    fn answer(&mut self, rt: &HostRuntime, row: &str) -> Result<String, Fault> {
+    fn answer<R: Threads + Wait + Sync>(
+        &mut self,
+        rt: &HostRuntime,
+        threads: &R,
+        row: &str,
+    ) -> Result<String, Fault> {
         let alloc = rt.alloc();
         if let Some(call) = row.strip_prefix("call ") {
             return self.call_text(alloc, number(call)?);
         }
         if let Some((over, chain)) = row.split_once('$') {
-            return self.chain_over(rt, over, chain);
+            return match words_of(alloc, over)?.as_slice() {
+                ["file", length, size] => {
+                    let file = file_of(rt, number(length)?)?;
+                    answers_of(
+                        threads,
+                        alloc,
+                        &mut FileDisk::new(file, number(size)?),
+                        chain,
+                    )
+                }
+                words => self.chain_over(threads, alloc, words, chain),
+            };
         }
         match row.strip_prefix("size ") {
             Some(words) => size(alloc, &words_of(alloc, words)?),
@@ -130,52 +148,61 @@ impl Disks {
     }
 
     // What a chain answers over the disk, or over another that is made of it for this chain alone.
-    fn chain_over(&mut self, rt: &HostRuntime, over: &str, chain: &str) -> Result<String, Fault> {
-        let alloc = rt.alloc();
-        let words = words_of(alloc, over)?;
-        match words.as_slice() {
-            [] => answers_of(rt, &mut self.disk, chain),
+    fn chain_over<R: Threads + Wait + Sync>(
+        &mut self,
+        rt: &R,
+        alloc: Global,
+        over: &[&str],
+        chain: &str,
+    ) -> Result<String, Fault> {
+        match over {
+            [] => answers_of(rt, alloc, &mut self.disk, chain),
             ["sealed", at, edits @ ..] => {
                 let mut bytes = self.edited(alloc, number(at)?, edits)?;
                 seal(&mut bytes, number(at)?)?;
-                answers_of(rt, &mut disk_of(alloc, bytes), chain)
+                answers_of(rt, alloc, &mut disk_of(alloc, bytes), chain)
             }
             ["unsealed", at, edits @ ..] => {
                 let bytes = self.edited(alloc, number(at)?, edits)?;
-                answers_of(rt, &mut disk_of(alloc, bytes), chain)
+                answers_of(rt, alloc, &mut disk_of(alloc, bytes), chain)
             }
             ["fail", calls @ ..] => {
                 let bytes = self.disk.bytes().to_vec(alloc)?;
                 answers_of(
                     rt,
+                    alloc,
                     &mut MemDisk::new(bytes, numbers_of(alloc, calls)?),
                     chain,
                 )
             }
             ["lie", lies @ ..] => {
                 let bytes = self.disk.bytes().to_vec(alloc)?;
-                answers_of(rt, &mut BlindDisk::new(bytes, lies_of(alloc, lies)?), chain)
+                answers_of(
+                    rt,
+                    alloc,
+                    &mut BlindDisk::new(bytes, lies_of(alloc, lies)?),
+                    chain,
+                )
             }
-            ["turn", call, name] => self.after_turn(rt, number(call)?, name, chain),
-            ["crash", call] => self.after_stops(rt, number(call)?, chain),
-            ["file", length, size] => over_file(rt, number(length)?, number(size)?, chain),
+            ["turn", call, name] => self.after_turn(rt, alloc, number(call)?, name, chain),
+            ["crash", call] => self.after_stops(rt, alloc, number(call)?, chain),
             _ => Err(Fault::Line),
         }
     }
 
     // What a chain answers over the disk that is an image that was saved from a call on, and whether it is that image then.
-    fn after_turn(
+    fn after_turn<R: Threads + Wait + Sync>(
         &self,
-        rt: &HostRuntime,
+        rt: &R,
+        alloc: Global,
         call: u64,
         name: &str,
         chain: &str,
     ) -> Result<String, Fault> {
-        let alloc = rt.alloc();
         let image = self.saved(name)?;
         let bytes = self.disk.bytes().to_vec(alloc)?;
         let mut disk = TurnedDisk::new(bytes, image.clone()?, call);
-        let answers = answers_of(rt, &mut disk, chain)?;
+        let answers = answers_of(rt, alloc, &mut disk, chain)?;
         let mut text = Text::new(alloc);
         text.add(answers.as_str());
         text.add(if disk.has(&image) {
@@ -206,12 +233,17 @@ impl Disks {
     }
 
     // What a chain answers over each image that a stop inside a call of the disk leaves.
-    fn after_stops(&self, rt: &HostRuntime, call: u64, chain: &str) -> Result<String, Fault> {
-        let alloc = rt.alloc();
+    fn after_stops<R: Threads + Wait + Sync>(
+        &self,
+        rt: &R,
+        alloc: Global,
+        call: u64,
+        chain: &str,
+    ) -> Result<String, Fault> {
         let mut answers = Vec::new(alloc);
         for (_name, fill) in FILLS {
             let image = self.image_after(alloc, call, fill)?;
-            answers.push(answers_of(rt, &mut disk_of(alloc, image), chain)?)?;
+            answers.push(answers_of(rt, alloc, &mut disk_of(alloc, image), chain)?)?;
         }
         by_fill(alloc, &answers)
     }
@@ -270,15 +302,15 @@ fn add_range(text: &mut Text, word: &str, at: u64, count: u64) {
     text.add_number(count);
 }
 
-// What a chain answers over a file of so many zeros, as a disk of this size.
-fn over_file(rt: &HostRuntime, length: u64, size: u64, chain: &str) -> Result<String, Fault> {
-    let Ok(file) = file_of(rt, length) else {
-        return Err(Fault::File);
-    };
-    answers_of(rt, &mut FileDisk::new(file, size), chain)
+// A file of so many zeros.
+fn file_of(rt: &HostRuntime, length: u64) -> Result<File, Fault> {
+    match new_file(rt, length) {
+        Ok(file) => Ok(file),
+        Err(_) => Err(Fault::File),
+    }
 }
 
-fn file_of(rt: &HostRuntime, length: u64) -> io::Result<File> {
+fn new_file(rt: &HostRuntime, length: u64) -> io::Result<File> {
     let file = File::options()
         .read(true)
         .write(true)

@@ -8,6 +8,8 @@ use crate::registry::{names, replay};
 use crate::sessions::session;
 use crate::streams::{sink, source};
 use std::alloc::Global;
+use std::sync::Wait;
+use std::thread::Threads;
 use transcripts::{Fault, Stage, words_of};
 
 /// Calls of parts, each of which begins with nothing.
@@ -19,7 +21,12 @@ impl Stage for Codecs {
         Err(Fault::Line)
     }
 
-    fn answer(&mut self, rt: &HostRuntime, row: &str) -> Result<String, Fault> {
+    fn answer<R: Threads + Wait + Sync>(
+        &mut self,
+        rt: &HostRuntime,
+        _threads: &R,
+        row: &str,
+    ) -> Result<String, Fault> {
         codec_answer(rt.alloc(), row)
     }
 }

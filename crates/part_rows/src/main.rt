@@ -20,6 +20,6 @@ use transcripts::Suite;
 
 fn main(rt: HostRuntime) -> io::Result<ExitCode> {
     let mut suite = Suite::new(rt.alloc(), Codecs);
-    let failed = suite.run_all(&rt)?;
+    let failed = suite.run_all(&rt, &rt)?;
     Ok(ExitCode::from(if failed == 0 { 0 } else { 1 }))
 }

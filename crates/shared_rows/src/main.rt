@@ -17,18 +17,20 @@
 //!     split P Q (Q is new)                join P Q (P takes Q in)               seen P
 //!     close P                             open P (on the disk that was closed)
 //!
-//! Behind the rows stands what two threads with a pass each come to, whatever comes first, and two workers whose first jobs wait for one
-//! another.
+//! Behind the rows stands what two threads with a pass each come to, whatever comes first, two workers whose first jobs wait for one
+//! another, and two whose callers do so at their first commits.
 #![tactic(auto)]
 
 mod answers;
 mod both;
+mod commits;
 mod shared;
 mod stage;
 mod steps;
 mod threads;
 mod workers;
 
+use crate::commits::two_callers;
 use crate::threads::two_threads;
 use crate::workers::two_workers;
 use stage::Stores;
@@ -38,7 +40,7 @@ use transcripts::Suite;
 
 fn main(rt: HostRuntime) -> io::Result<ExitCode> {
     let mut suite = Suite::new(rt.alloc(), Stores::new(&rt, rt.alloc()));
-    let failed = suite.run_all(&rt)?;
+    let failed = suite.run_all(&rt, &rt)?;
     drop(suite);
     match two_threads(&rt, rt.alloc()) {
         Ok(text) => println!(rt; "{text}")?,
@@ -47,6 +49,10 @@ fn main(rt: HostRuntime) -> io::Result<ExitCode> {
     match two_workers(&rt, rt.alloc()) {
         Ok(text) => print!(rt; "{text}")?,
         Err(_) => println!(rt; "two workers: no end")?,
+    }
+    match two_callers(&rt, rt.alloc()) {
+        Ok(text) => print!(rt; "{text}")?,
+        Err(_) => println!(rt; "two callers: no end")?,
     }
     Ok(ExitCode::from(if failed == 0 { 0 } else { 1 }))
 }

@@ -7,6 +7,7 @@ use disk_format::{is_slot_count, size_of};
 use refusals::Refusal;
 use std::alloc::Global;
 use std::sync::Wait;
+use std::thread::Threads;
 use store_core::Core;
 use summary_vector::NoSummary;
 use transcripts::{Fault, Stage, number, words_of};
@@ -42,7 +43,12 @@ impl<R: Wait> Stage for Stores<'_, R> {
     }
 
     // What the steps of a row answer.
-    fn answer(&mut self, rt: &HostRuntime, row: &str) -> Result<String, Fault> {
+    fn answer<T: Threads + Wait + Sync>(
+        &mut self,
+        rt: &HostRuntime,
+        _threads: &T,
+        row: &str,
+    ) -> Result<String, Fault> {
         let mut text = String::new(rt.alloc());
         for item in row.split(" ; ") {
             let answer = self.item(rt.alloc(), item)?;

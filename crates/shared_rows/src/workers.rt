@@ -76,7 +76,7 @@ fn work<R: Threads + Wait + Sync>(
         met: AtomicU64::new(0),
         left: AtomicU64::new(0),
     };
-    let jobs = jobs(alloc)?;
+    let jobs = jobs(alloc, JOBS, 8)?;
     let Ok((mut callers, ends)) = run_jobs(rt, alloc, callers, &jobs, &gate) else {
         return Err(Fault::Store);
     };
@@ -93,19 +93,19 @@ fn work<R: Threads + Wait + Sync>(
 }
 
 // The jobs, each with a seed of its own: so short files of one seed are all the same.
-fn jobs(alloc: Global) -> Result<Vec<Job>, Fault> {
+pub(crate) fn jobs(alloc: Global, count: u64, length: u64) -> Result<Vec<Job>, Fault> {
     let mut jobs = Vec::new(alloc);
-    for number in 0..JOBS {
+    for number in 0..count {
         jobs.push(Job {
             number,
             seed: number,
-            length: 8,
+            length,
         })?;
     }
     Ok(jobs)
 }
 
-fn count_stored(ends: &[JobEnd]) -> u64 {
+pub(crate) fn count_stored(ends: &[JobEnd]) -> u64 {
     let mut stored = 0u64;
     for end in ends {
         if let JobEnd::Stored(_) = end {
@@ -116,7 +116,7 @@ fn count_stored(ends: &[JobEnd]) -> u64 {
 }
 
 // A line for each name.
-fn names_of<S: StoreCalls>(alloc: Global, caller: &mut S) -> Result<String, Fault> {
+pub(crate) fn names_of<S: StoreCalls>(alloc: Global, caller: &mut S) -> Result<String, Fault> {
     let mut buf = SegBuf::new(alloc)?;
     let Ok(Answer::Listed { files }) = caller.ask(Step::List, &mut buf) else {
         return Err(Fault::Store);

@@ -40,17 +40,19 @@ mod words;
 use stage::Stores;
 use std::io;
 use std::process::ExitCode;
+use std::sync::Wait;
+use std::thread::Threads;
 use transcripts::Suite;
 
 // How many rows failed. The suite is let go at one place: its proof costs most there.
-fn failures(rt: &HostRuntime) -> io::Result<u64> {
+fn failures<R: Threads + Wait + Sync>(rt: &HostRuntime, threads: &R) -> io::Result<u64> {
     let mut suite = Suite::new(rt.alloc(), Stores::new(rt.alloc()));
-    let failed = suite.run_all(rt);
+    let failed = suite.run_all(rt, threads);
     drop(suite);
     failed
 }
 
 fn main(rt: HostRuntime) -> io::Result<ExitCode> {
-    let failed = failures(&rt)?;
+    let failed = failures(&rt, &rt)?;
     Ok(ExitCode::from(if failed == 0 { 0 } else { 1 }))
 }

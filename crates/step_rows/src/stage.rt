@@ -7,6 +7,8 @@ use crate::steps;
 use dd_disk::{BlindDisk, Disk, MemDisk};
 use disk_format::{is_slot_count, size_of};
 use std::alloc::Global;
+use std::sync::Wait;
+use std::thread::Threads;
 use store_core::Core;
 use summary_vector::NoSummary;
 use transcripts::{FILLS, Fault, Stage, by_fill, change, number, words_of};
@@ -77,7 +79,12 @@ impl Stage for Stores {
     }
 
     // What the steps of a row answer.
-    fn answer(&mut self, rt: &HostRuntime, row: &str) -> Result<String, Fault> {
+    fn answer<R: Threads + Wait + Sync>(
+        &mut self,
+        rt: &HostRuntime,
+        _threads: &R,
+        row: &str,
+    ) -> Result<String, Fault> {
         match row.strip_prefix("crash ") {
             Some(words) => self.after_stops(rt.alloc(), words),
             None => self.chain(rt.alloc(), row),

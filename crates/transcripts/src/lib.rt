@@ -1,4 +1,4 @@
-//! What the programs of rows share: lines of transcripts, the words of a line, and the text of an answer.
+//! What the programs of rows share: lines of transcripts, the words of a line, the text of an answer, and a meeting of two threads.
 //!
 //! A line that begins with a space goes on with the one before it; one that begins with `#` is passed over, and `## TITLE` is printed.
 //! `let NAME TEXT`, or `TEXT*COUNT`, has `{NAME}` stand for that text in all lines after it. `ROW => ANSWER` is a row, and
@@ -6,11 +6,13 @@
 #![tactic(auto)]
 
 mod fills;
+mod meeting;
 mod suite;
 mod text;
 mod words;
 
 pub use fills::{FILLS, by_fill, fill_of};
+pub use meeting::Meeting;
 pub use suite::{Stage, Suite};
 pub use text::Text;
 pub use words::{

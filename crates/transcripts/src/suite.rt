@@ -1,6 +1,10 @@
 //! Transcripts: their lines, and what is reported of them.
+ghost use Rattle.std.specs.Thread.{IsSync};
+
 use crate::words::{Fault, number};
 use std::alloc::{AllocError, Global};
+use std::sync::Wait;
+use std::thread::Threads;
 use std::{fs, io};
 
 /// What the lines of transcripts work on.
@@ -8,8 +12,14 @@ pub trait Stage {
     /// Does what a line without an answer says.
     fn prepare(&mut self, alloc: Global, line: &str) -> Result<(), Fault>;
 
-    /// What a row answers, of what stands before its ` => `.
-    fn answer(&mut self, rt: &HostRuntime, row: &str) -> Result<String, Fault>;
+    /// What a row answers, of what stands before its ` => `. `threads` is the leave to start threads, and to wait.
+    fn answer<R: Threads + Wait + Sync>(
+        &mut self,
+        rt: &HostRuntime,
+        threads: &R,
+        row: &str,
+    ) -> Result<String, Fault>
+        requires { IsSync R.row };
 }
 
 /// A text, and the mark `{NAME}` that stands for it.
@@ -40,34 +50,48 @@ impl<S: Stage> Suite<S> {
     }
 
     /// Runs the transcripts whose names standard input has, one a line, reports each row, and says how many failed.
-    pub fn run_all(&mut self, rt: &HostRuntime) -> io::Result<u64> {
+    pub fn run_all<R: Threads + Wait + Sync>(
+        &mut self,
+        rt: &HostRuntime,
+        threads: &R,
+    ) -> io::Result<u64> {
         for name in rt.lines(rt.alloc()) {
             let name = name?;
             let text = fs::read_to_string(rt, name.as_str())?;
             println!(rt; "\n# {name}")?;
-            self.run(rt, text.as_str())?;
+            self.run(rt, threads, text.as_str())?;
         }
         println!(rt; "\n{} rows, {} failed", self.rows, self.failed)?;
         Ok(self.failed)
     }
 
     // Goes through a transcript. A line that begins with a space goes on with the one before it.
-    fn run(&mut self, rt: &HostRuntime, text: &str) -> io::Result<()> {
+    fn run<R: Threads + Wait + Sync>(
+        &mut self,
+        rt: &HostRuntime,
+        threads: &R,
+        text: &str,
+    ) -> io::Result<()> {
         let mut line = String::new(rt.alloc());
         for next in text.lines() {
             if next.starts_with(' ') {
                 line.push_str(" ")?;
                 line.push_str(next.trim())?;
             } else {
-                self.run_line(rt, line.as_str())?;
+                self.run_line(rt, threads, line.as_str())?;
                 line.clear();
                 line.push_str(next)?;
             }
         }
-        self.run_line(rt, line.as_str())
+        self.run_line(rt, threads, line.as_str())
     }
 
-    fn run_line(&mut self, rt: &HostRuntime, line: &str) -> io::Result<()> {
+    fn run_line<R: Threads + Wait + Sync>(
+        &mut self,
+        rt: &HostRuntime,
+        threads: &R,
+        line: &str,
+    ) -> io::Result<()> {
         if let Some(title) = line.strip_prefix("## ") {
             return println!(rt; "\n{title}");
         }
@@ -75,16 +99,21 @@ impl<S: Stage> Suite<S> {
             return Ok(());
         }
         let line = expanded(rt.alloc(), line, &self.names)?;
-        self.follow(rt, line.as_str())
+        self.follow(rt, threads, line.as_str())
     }
 
     // Does what a line says: a name, a row, or what is to be done before rows.
-    fn follow(&mut self, rt: &HostRuntime, line: &str) -> io::Result<()> {
+    fn follow<R: Threads + Wait + Sync>(
+        &mut self,
+        rt: &HostRuntime,
+        threads: &R,
+        line: &str,
+    ) -> io::Result<()> {
         if let Some(words) = line.strip_prefix("let ") {
-            return self.follow_name(rt, line, words);
+            return self.follow_name(rt, threads, line, words);
         }
         if let Some((row, wanted)) = line.split_once(" => ") {
-            return self.run_rows(rt, row, wanted);
+            return self.run_rows(rt, threads, row, wanted);
         }
         match self.stage.prepare(rt.alloc(), line) {
             Ok(()) => Ok(()),
@@ -96,7 +125,13 @@ impl<S: Stage> Suite<S> {
     }
 
     // A name that cannot be taken fails.
-    fn follow_name(&mut self, rt: &HostRuntime, line: &str, words: &str) -> io::Result<()> {
+    fn follow_name<R: Threads + Wait + Sync>(
+        &mut self,
+        rt: &HostRuntime,
+        threads: &R,
+        line: &str,
+        words: &str,
+    ) -> io::Result<()> {
         match self.add_name(rt.alloc(), words) {
             Ok(()) => Ok(()),
             Err(fault) => {
@@ -123,15 +158,21 @@ impl<S: Stage> Suite<S> {
     }
 
     // A row, or with `many FROM TO` before it a row for each number, which stands where `#` is.
-    fn run_rows(&mut self, rt: &HostRuntime, row: &str, wanted: &str) -> io::Result<()> {
+    fn run_rows<R: Threads + Wait + Sync>(
+        &mut self,
+        rt: &HostRuntime,
+        threads: &R,
+        row: &str,
+        wanted: &str,
+    ) -> io::Result<()> {
         let failed = self.failed;
         match span_of(row) {
             Some((from, to, each)) => {
                 for number in from..=to {
-                    self.run_numbered(rt, number, each, wanted)?;
+                    self.run_numbered(rt, threads, number, each, wanted)?;
                 }
             }
-            None => self.run_row(rt, row, wanted)?,
+            None => self.run_row(rt, threads, row, wanted)?,
         }
         if self.failed == failed {
             println!(rt; "ok {}", front_of(row))?;
@@ -139,9 +180,10 @@ impl<S: Stage> Suite<S> {
         Ok(())
     }
 
-    fn run_numbered(
+    fn run_numbered<R: Threads + Wait + Sync>(
         &mut self,
         rt: &HostRuntime,
+        threads: &R,
         number: u64,
         row: &str,
         wanted: &str,
@@ -150,14 +192,20 @@ impl<S: Stage> Suite<S> {
         let digits = format!(in alloc; "{number}")?;
         let row = row.replace(alloc, "#", digits.as_str())?;
         let wanted = wanted.replace(alloc, "#", digits.as_str())?;
-        self.run_row(rt, row.as_str(), wanted.as_str())
+        self.run_row(rt, threads, row.as_str(), wanted.as_str())
     }
 
     // Runs a row. One of stops is a row for each of the seven fills.
-    fn run_row(&mut self, rt: &HostRuntime, row: &str, wanted: &str) -> io::Result<()> {
+    fn run_row<R: Threads + Wait + Sync>(
+        &mut self,
+        rt: &HostRuntime,
+        threads: &R,
+        row: &str,
+        wanted: &str,
+    ) -> io::Result<()> {
         let count = if row.starts_with("crash ") { 7 } else { 1 };
         self.rows = self.rows.saturating_add(count);
-        let found = match self.stage.answer(rt, row) {
+        let found = match self.stage.answer(rt, threads, row) {
             Ok(found) => found,
             Err(fault) => fault.text().to_string(rt.alloc())?,
         };

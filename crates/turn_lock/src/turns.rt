@@ -16,6 +16,9 @@ use std::alloc::Global;
 use std::snapshot::Snapshot;
 use std::sync::Wait;
 
+// How often a waiting pass looks which ticket is served, before it sleeps: most turns take less time than a thread takes to be woken.
+const LOOKS: u32 = 4_000;
+
 // ---- the parts of a turn
 
 impl<C: Booked> TurnLock<C> {
@@ -29,21 +32,27 @@ impl<C: Booked> TurnLock<C> {
         self.table.shared.fetch_add::<Draw>(pass, TICKETS, 1)
     }
 
-    // Waits until a ticket is served. Which one is meant is known, since at most `MOST_PASSES` are out at once.
+    // Waits until a ticket is served: looks for a while, and then sleeps until another one is. Which one is meant is known, since at most
+    // `MOST_PASSES` are out at once.
     fn wait<R: Wait>(&self, rt: &R, pass: &mut TurnPass<C>, ticket: u64)
         requires pass { pass.old.table_id ≡ lock_id self.now }
         requires waits { (n : ℕ) × (pass.old.me.0.stage ≡ Waits n) × (n % 2 ^ 64 ≡ ticket) × (pass.old.me.1 ≡ []) }
         ensures same { IsSamePass pass.old pass.new }
         ensures served { IsServed C.makes pass.old.me.0 (ticket_of pass.old.me.0.stage) pass.new.me }
     {
+        let mut looks = LOOKS;
         for _ in rt.forever() {
             let served = self.table.shared.load::<Look>(pass, SERVED);
             if served == ticket {
                 return;
             }
-            self.table
-                .shared
-                .park(rt, SERVED, (served % (1 << 32)) as u32);
+            if looks > 0 {
+                looks -= 1;
+            } else {
+                self.table
+                    .shared
+                    .park(rt, SERVED, (served % (1 << 32)) as u32);
+            }
         }
         unreachable!()
     }

@@ -7,6 +7,7 @@ use crate::rule::TurnRule;
 use atomic_table::{Seat, Table};
 use std::alloc::Global;
 use std::snapshot::Snapshot;
+use std::sync::atomic::AtomicU64;
 
 /// How many passes a lock can have, the first one included.
 pub const MOST_PASSES: u64 = 64;
@@ -22,6 +23,9 @@ pub(crate) const LINES: usize = 2;
 #[derive(Drop)]
 pub struct TurnLock<C: Booked> {
     pub(crate) table: Table<Option<Home<C>>, View<C>, Snapshot<C>, TurnRule, Global>,
+    /// One for each ticket that may be out at once, on which its pass sleeps: so the end of a turn wakes those whose turn is near, and no
+    /// others. What they say has no part in what the lock promises.
+    pub(crate) bells: [AtomicU64; MOST_PASSES as usize],
     ghost sized: { (table.shared.table_id.words ≡ 3) × (table.shared.table_id.slots ≡ 1) },
 }
 

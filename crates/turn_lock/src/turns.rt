@@ -13,15 +13,40 @@ use crate::lock::{LINES, MOST_PASSES, NewPass, SERVED, StillOpen, TICKETS, TurnL
 use crate::plays::{Draw, Give, Look, Meet, PassOn, Post};
 use atomic_table::{Refused, Table};
 use std::alloc::Global;
+use std::array::from_fn;
 use std::snapshot::Snapshot;
 use std::sync::Wait;
+use std::sync::atomic::{AtomicU64, Ordering};
 
 // How often a waiting pass looks which ticket is served, before it sleeps: most turns take less time than a thread takes to be woken.
-const LOOKS: u32 = 4_000;
+const LOOKS: u32 = 6_000;
+
+// A pass that is further from its turn than so many sleeps at once. It is woken as it comes so near, so that it looks as its turn comes.
+const NEAR: u64 = 2;
+
+// What a bell says: its pass sleeps, or is about to; or nobody waits for it.
+const ASLEEP: u64 = 1;
+
+const AWAKE: u64 = 0;
 
 // ---- the parts of a turn
 
 impl<C: Booked> TurnLock<C> {
+    // The bell of a ticket. Of those that are out at once no two have one; as 2^64 is a multiple of how many bells there are, this is so
+    // also where the numbers of tickets begin again.
+    fn bell(&self, ticket: u64) -> &AtomicU64 {
+        &self.bells[(ticket % MOST_PASSES) as usize]
+    }
+
+    // Wakes the pass that waits with a ticket, where it sleeps.
+    fn ring(&self, ticket: u64) {
+        let bell = self.bell(ticket);
+        if bell.load(Ordering::SeqCst) != AWAKE {
+            bell.store(AWAKE, Ordering::SeqCst);
+            bell.wake_one();
+        }
+    }
+
     // Draws a ticket.
     fn draw(&self, pass: &mut TurnPass<C>) -> u64
         requires pass { pass.old.table_id ≡ lock_id self.now }
@@ -32,26 +57,32 @@ impl<C: Booked> TurnLock<C> {
         self.table.shared.fetch_add::<Draw>(pass, TICKETS, 1)
     }
 
-    // Waits until a ticket is served: looks for a while, and then sleeps until another one is. Which one is meant is known, since at most
-    // `MOST_PASSES` are out at once.
+    // Waits until a ticket is served: looks for a while once it is near, and else sleeps until its bell is rung. It says so at its bell,
+    // and looks once more, before it sleeps: so whoever serves its ticket finds it asleep, or it finds its ticket served. Which one is
+    // meant is known, since at most `MOST_PASSES` are out at once.
     fn wait<R: Wait>(&self, rt: &R, pass: &mut TurnPass<C>, ticket: u64)
         requires pass { pass.old.table_id ≡ lock_id self.now }
         requires waits { (n : ℕ) × (pass.old.me.0.stage ≡ Waits n) × (n % 2 ^ 64 ≡ ticket) × (pass.old.me.1 ≡ []) }
         ensures same { IsSamePass pass.old pass.new }
         ensures served { IsServed C.makes pass.old.me.0 (ticket_of pass.old.me.0.stage) pass.new.me }
     {
+        let bell = self.bell(ticket);
         let mut looks = LOOKS;
+        let mut told = false;
         for _ in rt.forever() {
             let served = self.table.shared.load::<Look>(pass, SERVED);
             if served == ticket {
                 return;
             }
-            if looks > 0 {
+            if looks > 0 && ticket.wrapping_sub(served) <= NEAR {
                 looks -= 1;
+            } else if !told {
+                bell.store(ASLEEP, Ordering::SeqCst);
+                told = true;
             } else {
-                self.table
-                    .shared
-                    .park(rt, SERVED, (served % (1 << 32)) as u32);
+                bell.park(rt, ASLEEP as u32);
+                told = false;
+                looks = LOOKS;
             }
         }
         unreachable!()
@@ -72,7 +103,7 @@ impl<C: Booked> TurnLock<C> {
         }
     }
 
-    // Serves the next ticket, once the value is back in its slot.
+    // Serves the next ticket, once the value is back in its slot, and wakes its pass, and the one that is near now.
     fn pass_on(&self, pass: &mut TurnPass<C>)
         requires pass { pass.old.table_id ≡ lock_id self.now }
         requires turn { (n : ℕ) × (found : Home C) × (pass.old.me.0.stage ≡ InTurn n found)
@@ -80,8 +111,10 @@ impl<C: Booked> TurnLock<C> {
         ensures same { IsSamePass pass.old pass.new }
         ensures rests { pass.new.me ≡ resting pass.old.me.0 pass.old.me.0.seen pass.old.me.0.numbers }
     {
-        self.table.shared.fetch_add::<PassOn>(pass, SERVED, 1);
-        self.table.shared.wake_all(SERVED);
+        let ended = self.table.shared.fetch_add::<PassOn>(pass, SERVED, 1);
+        let served = ended.wrapping_add(1);
+        self.ring(served);
+        self.ring(served.wrapping_add(NEAR));
     }
 
     // Ends a turn in which the pass made of the value what it may. The turn stands in the history from then on.
@@ -147,7 +180,13 @@ impl<C: Booked> TurnLock<C> {
         };
         slots.push_reserved(Some(Home { given: 1, value }));
         match Table::new(alloc, &[0, 0, lines], slots, &about) {
-            Ok((table, pass)) => Ok((TurnLock { table }, pass)),
+            Ok((table, pass)) => Ok((
+                TurnLock {
+                    table,
+                    bells: from_fn(|_| AtomicU64::new(0)),
+                },
+                pass,
+            )),
             Err(Refused { slots }) => Err(taken_back(slots)),
         }
     }

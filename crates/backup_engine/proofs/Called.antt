@@ -1,9 +1,7 @@
 -- A core that was opened over a disk, ran, and was closed.
-use Rattle.backup_engine.proofs.Prelude.{◌≡◌, ◌≤◌, ℕ, List, Some, refl, sym, ◌∙◌, subst, Stored, DiskView, IsDurable, Reads, Shows, slot_at, RESERVE, SameBefore, Store, free_slots, IsOf, IsNew, IndexesAll, IsAt, CoreState, IsRunning}
+use Rattle.backup_engine.proofs.Prelude.{◌≡◌, ℕ, refl, sym, subst, DiskView, IsDurable, Reads, Shows, slot_at, SameBefore, IsNew, CoreState, IsRunning}
 use Rattle.dd_disk.specs.Ending.{Done}
-use Rattle.store_model.specs.Collisions.{Stands}
 use Rattle.store_state.specs.Settled.{IsSettled}
-use Rattle.store_core.proofs.Opened.{begins_at}
 
 -- the disk as it was before the opening, and as the closing gave it back
 pub record Called (C : Type 0) (state : C → CoreState) (v w : DiskView) (old new : C) : Type 0 where

@@ -1,6 +1,5 @@
 -- Commands that end before anything is asked of a core.
-use Rattle.backup_engine.proofs.Prelude.{◌≡◌, inl, ◌≤◌, ℕ, List, [], IsTrue, false, true, Option, Some, Err, refl, ◌∙◌, arith, Known, DiskView, IsLater, OnlyReads, Reads, NoFault, Shows, reads_refused, until, shown_content, SourceView, SinkView, Refusal, Memory, Full, DiskRead, DiskWrite, Sink, Refused, Stored, Store, free_slots, IsIn, IsOf, fails, IsOpenRefusal, IsGivenUp, IsNotRead, CoreState, CommandLine, Format, Ingest, Restore, Collect, FindsBeforeWriting, Holds, IsCaused, Took, WroteOnAny, EndsDurable, Keeps, IsLeftBlank, IsUntouched}
-use Rattle.recovery.specs.Opening.{Opens}
+use Rattle.backup_engine.proofs.Prelude.{◌≡◌, inl, ℕ, List, [], Some, refl, ◌∙◌, Known, DiskView, IsLater, OnlyReads, Reads, NoFault, Shows, reads_refused, until, SourceView, SinkView, Refusal, Memory, DiskRead, DiskWrite, Refused, IsOpenRefusal, IsNotRead, CoreState, CommandLine, Format, Ingest, Restore, Collect, FindsBeforeWriting, Holds, IsCaused, Took, WroteOnAny, EndsDurable, Keeps, IsLeftBlank, IsUntouched}
 use Rattle.backup_engine.specs.Line.{Delete}
 use Rattle.backup_engine.specs.Line as table
 use Rattle.backup_engine.proofs.Called.{Called}

@@ -1,5 +1,5 @@
 -- What a command leaves that did no more than read.
-use Rattle.backup_engine.proofs.Prelude.{◌⊎◌, ◌≡◌, inl, inr, ℕ, List, [], Option, Some, refl, ◌∙◌, arith, DiskView, OnlyReads, SinkView, Refusal, DiskWrite, Refused, IsOf, Store, Encodes, CommandLine, Format, Ingest, Restore, Collect, LeavesMeanwhile, SinceStart, KeepsRest, KeepsOthers, IsSameDisk}
+use Rattle.backup_engine.proofs.Prelude.{◌⊎◌, inl, inr, ℕ, List, Option, refl, ◌∙◌, arith, DiskView, OnlyReads, CommandLine, Format, Ingest, Restore, Collect, LeavesMeanwhile, SinceStart, KeepsRest, KeepsOthers, IsSameDisk}
 use Rattle.reply_text.specs.declared.ending.Ending.{Ending}
 use Rattle.backup_engine.specs.AnyDisk.{IsUnchanged}
 use Rattle.backup_engine.specs.Line.{Delete}

@@ -4,7 +4,7 @@ use Rattle.std.specs.Prelude.{◌≢◌, ◌≤◌, ◌<◌, ◌^◌}
 use Rattle.disk_format.specs.declared.numbers.TheConstants.{MOST_FILE}
 use Rattle.ingest_workers.specs.declared.job.Job.{Job}
 use Rattle.ingest_workers.specs.Named.{HaveNumbers}
-use Rattle.shared_work.specs.Ending.{IsSmall}
+use Rattle.shared_work.specs.Completing.{IsSmall}
 use Rattle.backup_engine.specs.Line.{Load}
 use Rattle.backup_engine.specs.Working.{jobs_from, plan_of}
 

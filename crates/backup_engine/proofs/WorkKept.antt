@@ -1,6 +1,7 @@
 -- Workers over a core whose disk was lent: what the top call says of them.
-use Rattle.backup_engine.proofs.Prelude.{◌≡◌, ◌⊎◌, inl, inr, ◌≤◌, ℕ, List, [], ◌∷◌, Option, Some, None, Ok, Err, refl, sym, ◌∙◌, ap, subst, MutBor, Reads, Shows, CrashLeaves, DiskView, IsLater, later_on, SinkView, SourceView, Refusal, Memory, Refused, OpensCore, OpensNone, CoreState, IsRunning, IsReadFrom, IsNotRead, of_files, IsIn, CallsRunByFiles, FailsAlone, RunsEachByFiles, until}
-use Rattle.std.specs.Prelude.{false, option_map, replicate}
+use Rattle.backup_engine.proofs.Prelude.{◌≡◌, ◌⊎◌, inl, inr, ◌≤◌, ℕ, List, [], ◌∷◌, Option, Some, None, Ok, Err, refl, sym, ◌∙◌, ap, subst, MutBor, Reads, Shows, DiskView, IsLater, later_on, SinkView, SourceView, Refusal, Memory, Refused, OpensCore, OpensNone, CoreState, IsRunning, IsReadFrom, IsNotRead, of_files, IsIn, CallsRunByFiles, FailsAlone, RunsEachByFiles, until}
+use Rattle.std.specs.Prelude.{false, option_map, replicate, Result, IfErr}
+use Rattle.std.specs.List.{AllByRecursion}
 use Rattle.std.specs.Cmp.Lexicographic.{slice_cmp}
 use Rattle.std.specs.Ordering.{nat_cmp}
 use Rattle.std.specs.FinMap as finite
@@ -11,37 +12,38 @@ use Rattle.actor_parts.specs.declared.part.Part.TheVariants.{Idle}
 use Rattle.disk_format.specs.Cells.{Root}
 use Rattle.merkle_file.specs.declared.top.Top.{Top}
 use Rattle.refusals.specs.declared.refusal.Refusal.TheVariants.{Stopped}
+use Rattle.refusals.specs.declared.refusal.Refusal.TheVariants as refusals
 use Rattle.reply_text.specs.declared.ending.Ending.{Ending}
-use Rattle.store_model.specs.Collisions.{ByteSet}
+use Rattle.store_model.specs.Collisions.{ByteSet, HasNoCollisions}
 use Rattle.store_model.specs.Image.{Encodes, Store}
 use Rattle.store_core.specs.declared.stop.Stop.{Stop}
 use Rattle.store_core.specs.State.{Event}
 use Rattle.store_machine.specs.ByMap.{FileMachine}
-use Rattle.store_machine.specs.Done as done
 use Rattle.store_machine.specs.Machine.{Machine, Running, all_idle}
 use Rattle.store_machine.specs.Opening.{MayBeFound, Opens}
 use Rattle.store_machine.specs.Values.{of_roots}
 use Rattle.core_machine.proofs.FileStays.{stands_read}
-use Rattle.core_machine.specs.FileOpenings.{DisksStand, FilesOpened}
+use Rattle.core_machine.specs.Bytes.{OfStore}
+use Rattle.core_machine.specs.FileOpenings.{FilesOpened}
 use Rattle.core_machine.specs.Files.{IsFileMachine, IsOfFound}
 use Rattle.core_machine.specs.Openings.{OpenedRefines}
 use Rattle.script_runner.proofs.RootsFound.{roots_named}
 use Rattle.ingest_workers.specs.declared.job.Job.{Job}
 use Rattle.ingest_workers.specs.Named.{HaveNumbers}
+use Rattle.shared_work.specs.Clashing.{IsHeldNode}
 use Rattle.shared_work.specs.Complete.{IsEmptyAt}
-use Rattle.shared_work.specs.Completing.{IsWorkNode, WorksAreComplete}
-use Rattle.shared_work.specs.Ending.{IsSmall, WorksMayEnd}
+use Rattle.shared_work.specs.Completing.{IsAtLast, IsCause, IsFull, IsSmall, IsWorkNode, ShownSince, WorksAreComplete}
 use Rattle.shared_work.specs.Freed.{IsOpening}
 use Rattle.shared_work.specs.Left as work
 use Rattle.shared_work.specs.Left.{WorksAreRuns, WorksLeaveFiles}
 use Rattle.shared_work.specs.Whole.{CountSteps, IsToldOf, Outcome, Plan, ToldAs, WorksThrough}
 use Rattle.backup_engine.specs.Seen.{devices}
 use Rattle.backup_engine.specs.TopCall.{RunsWork}
-use Rattle.backup_engine.specs.Working.{IsOfWork, KeepsWork, Prints, Ran, WorkByFiles, WorksByRoots, WorksEachByFiles, WorksOpened, WorksUnopened, told_by}
+use Rattle.backup_engine.specs.Working.{IsOfWork, KeepsWork, Prints, Ran, WorksByRoots, WorksEachByFiles, WorksUnopened, told_by}
 use Rattle.backup_engine.proofs.ByFiles.{call_leaves, memory_by_files, opened_clock}
 use Rattle.backup_engine.proofs.Commanded.{full_not}
 use Rattle.backup_engine.proofs.FailsAlone.{fails_memory}
-use Rattle.backup_engine.proofs.Lending.{below, lent_end, lent_view, made_there}
+use Rattle.backup_engine.proofs.Lending.{lent_end, lent_view, made_there}
 use Rattle.backup_engine.proofs.Opens.{made_later, read_holds, unbegun}
 use Rattle.backup_engine.proofs.PutCauses.{run_later}
 use Rattle.backup_engine.proofs.Unlent.{shows}
@@ -102,17 +104,42 @@ module _ (loans loans_now : List ℕ) (v w : DiskView) where
         crash = record { now = is.crash.now; since = is.crash.since };
         done = is.done;
         complete = is.complete;
-        twinless = is.twinless;
       }
 
--- ---- nodes
+-- ---- causes
 
--- what was held between two moments was held between one before them and one after
-node_between : (plan : Plan) (first opened last now : DiskView) → first.clock ≤ opened.clock → IsLater opened last → IsLater last now → (bytes : List ℕ)
-    → IsWorkNode plan opened last bytes → IsWorkNode plan first now bytes
-node_between plan first opened last now earlier between after bytes (inl node) = inl node
-node_between plan first opened last now earlier between after bytes (inr (image, (since, held))) =
-    inr (image, (now.earlier first.clock opened.clock image earlier (after.images_were opened.clock image between.clock_is since), held))
+-- what was shown between two moments was shown between one before them and one after
+module _ (plan : Plan) (first opened last now : DiskView) (earlier : first.clock ≤ opened.clock) (between : IsLater opened last) (after : IsLater last now) where
+  shown_between : (P : List ℕ → Type 0) → ShownSince opened last P → ShownSince first now P
+  shown_between P (image, (since, is)) =
+      (image, (now.earlier first.clock opened.clock image earlier (after.images_were opened.clock image between.clock_is since), is))
+
+  node_between : (bytes : List ℕ) → IsWorkNode plan opened last bytes → IsWorkNode plan first now bytes
+  node_between bytes (inl node) = inl node
+  node_between bytes (inr held) = inr (shown_between (IsHeldNode bytes) held)
+
+  apart_between : HasNoCollisions (IsWorkNode plan first now) → HasNoCollisions (IsWorkNode plan opened last)
+  apart_between apart a b a_is b_is = apart a b (node_between a a_is) (node_between b b_is)
+
+  cause_between : (refusal : Refusal) → IsCause plan opened last refusal → IsCause plan first now refusal
+  cause_between Memory is = tt
+  cause_between (refusals.Full free) is = shown_between (IsFull free) is
+  cause_between refusals.Numbers is = shown_between (λ image. OfStore image IsAtLast) is
+  cause_between refusals.DiskRead is = tt
+  cause_between refusals.DiskWrite is = tt
+  cause_between (Stopped at) is = tt
+  cause_between (refusals.Clash key at) is = λ apart. is (apart_between apart)
+  cause_between (refusals.Unpinned key) is = is
+  cause_between refusal is = absurd is
+
+  or_cause_between : {X : Type 0} (r : Result X Refusal) → IfErr r (IsCause plan opened last) → IfErr r (IsCause plan first now)
+  or_cause_between (Ok x) is = tt
+  or_cause_between (Err refusal) is = cause_between refusal is
+
+  each_between : (es : List Event) → AllByRecursion (λ e. IfErr e.answer (IsCause plan opened last)) es
+      → AllByRecursion (λ e. IfErr e.answer (IsCause plan first now)) es
+  each_between [] each = tt
+  each_between (e ∷ es) each = (or_cause_between e.answer each.0, each_between es each.1)
 
 -- ---- no core was opened
 
@@ -238,7 +265,7 @@ module _ (D : Type 0) (view : D → DiskView) (C : Type 0) (state : C → CoreSt
         prints = prints;
       }
 
-    module _ (files_opened : FilesOpened (MutBor D) given C state) (leave_files : WorksLeaveFiles state) (may_end : WorksMayEnd C state) (complete : WorksAreComplete C state)
+    module _ (files_opened : FilesOpened (MutBor D) given C state) (leave_files : WorksLeaveFiles state) (complete : WorksAreComplete C state)
         (small : IsSmall plan) where
       by_files : OpensCore (MutBor D) given (given first) (state old) → WorksEachByFiles plan ran (given first) end
       by_files opened among m distinct segments known =
@@ -264,17 +291,16 @@ module _ (D : Type 0) (view : D → DiskView) (C : Type 0) (state : C → CoreSt
                 (call_leaves (IsOfFound (IsIn among) m) (λ image. IsOfFound (IsIn among) k image ⊎ work.IsOfWork state (IsIn among) plan k image) (given first)
                 (state old).disk (state new).disk end (opened_clock (MutBor D) given (given first) (state old) opened) work_between one.1.2 here.crash last);
             done = here.done;
-            complete = λ none. may_end among plan came k old new distinct segments small
+            complete = λ none.
+                let causes = complete among plan came k old new distinct segments small
                 (empty_at among k old running one.1.1 runs (ap (λ (x : FileMachine). x.parts) reopened.others) (ap (λ (x : FileMachine). x.collection) reopened.others) none)
-                works;
-            twinless = λ no_nodes.
-                complete among plan came k old new distinct segments some running one.1.1 runs (λ a b a_is b_is. no_nodes a b (node a a_is) (node b b_is)) works;
+                (ap (λ (x : FileMachine). x.last_id) reopened.others) works in
+                let earlier = opened_clock (MutBor D) given (given first) (state old) opened in (
+                  each_between plan (given first) (state old).disk (state new).disk end earlier work_between last.only.later works.steps causes.0,
+                  or_cause_between plan (given first) (state old).disk (state new).disk end earlier work_between last.only.later came causes.1,
+                );
           }
         where
-          node : (bytes : List ℕ) → IsWorkNode plan (state old).disk (state new).disk bytes → IsWorkNode plan (given first) end bytes
-          node = node_between plan (given first) (state old).disk (state new).disk end (opened_clock (MutBor D) given (given first) (state old) opened) work_between
-              last.only.later
-
           empty_at : (among : ByteSet) (k : FileMachine) (core : C) → IsRunning (state core) → IsFileMachine (IsIn among) k (state core) → k.state ≡ Running → k.parts ≡ all_idle
               → k.collection ≡ None → k.now.names ≡ finite.empty → IsEmptyAt (IsIn among) k (state core)
           empty_at among k core running machine runs idle no_collection none = record {

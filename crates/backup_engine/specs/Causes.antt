@@ -1,21 +1,17 @@
 -- Why a command is refused on any disk, by what the store is that reads showed, as the command leaves it: so an `ingest` may have stored
 -- pieces before (docs/MODEL.md, 'The promise').
-use Rattle.std.specs.Prelude.{◌≡◌, ◌≢◌, ◌⊎◌, ℕ, ◌-◌, ◌^◌, ◌<◌, ◌≤◌, List, length, Bool, true, false, is_some, option_map, Option, None, Some}
-use Rattle.std.specs.FinMap as finite
+use Rattle.std.specs.Prelude.{◌≡◌, ◌≢◌, ◌⊎◌, ℕ, ◌-◌, ◌^◌, ◌<◌, ◌≤◌, List, length, Bool, true, false, option_map, Option, None, Some}
 use Rattle.disk_format.specs.declared.numbers.TheConstants.{MOST_FILE, MOST_NAMES, RESERVE, LAST_ID}
 use Rattle.disk_format.specs.Cells.{IsName}
 use Rattle.disk_format.specs.Layout.{half_cells, size_of}
 use Rattle.refusals.specs.declared.refusal.Difference.TheVariants.{Length}
 use Rattle.refusals.specs.declared.refusal.Refusal.{Refusal}
-use Rattle.refusals.specs.declared.refusal.Refusal.TheVariants.{Memory, NoFile, BadName, TooMany, TooLong, Full, Clash, DiskRead, DiskWrite, Numbers, Unpinned, AlreadyStore, WrongSize}
-use Rattle.store_model.specs.Files.{Stored, with_stored, without_stored}
+use Rattle.refusals.specs.declared.refusal.Refusal.TheVariants.{NoFile, BadName, TooMany, TooLong, Full, Clash, Numbers, Unpinned}
 use Rattle.store_model.specs.Image.{Store}
 use Rattle.store_model.specs.Slots.{newest, free_slots, last_id}
 use Rattle.merkle_file.specs.Node.{Contents}
 use Rattle.store_model.specs.Pieces.{Piece, Node, IsPieceOf, piece_key, piece_bytes}
 use Rattle.store_model.specs.Trees.{node_key}
-use Rattle.backup_engine.specs.Line.{CommandLine, Format, Ingest, Restore, Delete, Collect, name_of}
-use Rattle.backup_engine.specs.Line as table
 
 -- What refusals go by: whether the name has a file, how many names have one, the last sequence number; and of the disk its
 -- size, how many slots are free, the last container id, how many records the half of the journal has that counts, its generation, and

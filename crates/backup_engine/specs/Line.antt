@@ -16,8 +16,8 @@ pub data CommandLine : Type 0 where
   List : CommandLine
   Collect : (percent : ℕ) → CommandLine
 
--- What `work` is asked for: so many workers, and so many files of so many bytes each, made from a seed, which they store beside one another;
--- and the percentage of the collections that are made meanwhile.
+-- What `work` is asked for: so many workers, and so many files of so many bytes each, made from a seed, which they store beside one
+-- another; and the percentage of the collections that are made meanwhile.
 pub record Load : Type 0 where
   pub workers : ℕ
   pub seed : ℕ
@@ -102,8 +102,8 @@ load_from _ _ _ _ _ = None
 -- a load, by the word for each number of it
 abbrev pub load_by : (workers seed files bytes percent : ListOf ℕ) → Option Load
 load_by workers seed files bytes percent =
-    load_from (number_within 1 32 workers) (number_within 0 18446744073709551615 seed) (number_within 1 256 files) (number_within 0 16777216 bytes)
-    (percent_of percent)
+    load_from (number_within 1 32 workers) (number_within 0 18446744073709551615 seed) (number_within 1 256 files)
+    (number_within 0 16777216 bytes) (percent_of percent)
 
 abbrev pub load_of : ListOf (ListOf ℕ) → Option Load
 load_of (workers ∷ seed ∷ files ∷ bytes ∷ percent ∷ []) = load_by workers seed files bytes percent

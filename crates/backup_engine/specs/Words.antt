@@ -18,8 +18,8 @@ one_argument name = with_rule (new_app name) (argument_rule (codes "argument"))
 -- the command with the arguments of a load
 abbrev pub load_arguments : App
 load_arguments =
-    with_rule (with_rule (with_rule (with_rule (with_rule (new_app (codes "work")) (argument_rule (codes "workers"))) (argument_rule (codes "seed")))
-    (argument_rule (codes "files"))) (argument_rule (codes "bytes"))) (argument_rule (codes "percent"))
+    with_rule (with_rule (with_rule (with_rule (with_rule (new_app (codes "work")) (argument_rule (codes "workers")))
+    (argument_rule (codes "seed"))) (argument_rule (codes "files"))) (argument_rule (codes "bytes"))) (argument_rule (codes "percent"))
 
 -- words with no name of a program before them, the first of which is a subcommand; none asks for help or a version
 abbrev pub no_commands : App

@@ -1,5 +1,5 @@
 -- What `work` promises: workers that store generated files beside one another, in a store without names (docs/MODEL.md, 'Workers').
-use Rattle.std.specs.Prelude.{◌≡◌, ◌⊎◌, ℕ, zero, suc, List, [], ◌∷◌, ◌++◌, map, Option, Some, None, Result, Ok, Err}
+use Rattle.std.specs.Prelude.{◌≡◌, ◌⊎◌, ℕ, zero, suc, List, [], ◌∷◌, map, Option, Some, None, Ok, Err, IfErr}
 use Rattle.std.specs.FinMap as finite
 use Rattle.std.specs.List.{AllByRecursion}
 use Rattle.base_model.specs.Known.{KnownWith}
@@ -32,9 +32,7 @@ use Rattle.script_runner.specs.Runner.{Sent}
 use Rattle.script_runner.specs.Shown.{WasOpened}
 use Rattle.ingest_workers.specs.declared.job.Job.{Job}
 use Rattle.ingest_workers.specs.Named.{HasStreams}
-use Rattle.shared_work.specs.Complete.{MayAnswer}
-use Rattle.shared_work.specs.Completing.{IsNoTwin, IsWorkNode}
-use Rattle.shared_work.specs.Ending.{MayCome}
+use Rattle.shared_work.specs.Completing.{IsCause}
 use Rattle.shared_work.specs.Streams.{HasAllSegments, IsOfStreams}
 use Rattle.shared_work.specs.declared.whole.Summary.{Summary}
 use Rattle.shared_work.specs.Whole.{CountSteps, IsWorkDone, Outcome, Plan, ToldAs, WorkSteps, streams_of}
@@ -64,7 +62,8 @@ told_by came stopped = came
 abbrev pub Prints : Outcome → Option Ending → SinkView → SinkView → Type 0
 Prints (Ok summary) None sink sink_now = Sent (summary_text summary.files summary.segments summary.bytes) (Ok tt) sink sink_now
 Prints (Ok summary) (Some (Refused refusal)) sink sink_now = (refusal ≡ Memory) × (sink_now ≡ sink)
-Prints (Ok summary) (Some ending) sink sink_now = Sent (summary_text summary.files summary.segments summary.bytes) (Err ending) sink sink_now
+Prints (Ok summary) (Some ending) sink sink_now =
+    Sent (summary_text summary.files summary.segments summary.bytes) (Err ending) sink sink_now
 Prints (Err refusal) ending sink sink_now = (ending ≡ Some (Refused refusal)) × (sink_now ≡ sink)
 
 -- ---- on any disk
@@ -112,11 +111,12 @@ KeepsWork plan (Some ran) ending saw = WorksOpened plan ran ending saw
 abbrev pub IsOfWork : (List ℕ → Type 0) → Plan → (m opened : FileMachine) → List ℕ → Type 0
 IsOfWork S plan m opened image = IsOfFound S m image ⊎ ((opened.now.names ≡ finite.empty) × IsOfStreams S (streams_of plan) image)
 
--- The steps are a run of the machine of files, its opening first. At the end what reads give, and each image, stands for its files; and of a
--- store without names these are files of jobs. At any moment of the call, also inside a write, a crash leaves such an image, or one that it
--- might have left before. In a store without names each step is done, or refused for want of memory, of a slot or of a number, by a call of
--- the disk that failed or one that failed before, or since a node clashes or lacks a pin; and so is what came. But it does not end for either
--- of the last two where no two different nodes have one digest: of the trees of the jobs' files, or held at any moment of the call.
+-- The steps are a run of the machine of files, its opening first. At the end what reads give, and each image, stands for its files; and of
+-- a store without names these are files of jobs. At any moment of the call, also inside a write, a crash leaves such an image, or one that
+-- it might have left before. In a store without names each step is done, or refused for its cause, and so is what came: for want of memory;
+-- of a slot or of a number, as an image shows that a crash might have left since the call began; by a call of the disk that failed, or one
+-- that failed before; or, only where two different nodes have one digest, of the trees of the jobs' files or held at any moment of the
+-- call, since a node clashes or lacks a pin.
 pub record WorksByFiles (S : List ℕ → Type 0) (plan : Plan) (ran : Ran) (m : FileMachine) (disk disk_now : DiskView) : Type 0 where
   pub files : ℕ
   pub opened : FileMachine
@@ -130,8 +130,8 @@ pub record WorksByFiles (S : List ℕ → Type 0) (plan : Plan) (ran : Ran) (m :
       → HasStreams (streams_of plan) found.names
   pub crash : CrashLeaves (IsOfWork S plan m opened) disk disk_now
   pub done : (summary : Summary) → ran.came ≡ Ok summary → IsWorkDone plan summary left
-  pub complete : opened.now.names ≡ finite.empty → AllByRecursion (λ e. MayAnswer e.answer) ran.steps × MayCome ran.came
-  pub twinless : HasNoCollisions (IsWorkNode plan disk disk_now) → (refusal : Refusal) → ran.came ≡ Err refusal → IsNoTwin refusal
+  pub complete : opened.now.names ≡ finite.empty
+      → AllByRecursion (λ e. IfErr e.answer (IsCause plan disk disk_now)) ran.steps × IfErr ran.came (IsCause plan disk disk_now)
 
 -- So it is of each machine of files for which the content of the disk may stand, where no two different data segments have one digest: of a
 -- set of those that the disk holds and that the jobs' files have.

@@ -34,12 +34,12 @@ use std::thread::Threads;
 
 /// Runs one command, by its words, over a disk, and gives the exit status (docs/FORMAT.md, 'Commands').
 ///
-/// `ingest` reads `source`, to its end where it is done; the reply, or the bytes of the file that is restored, goes to `sink`. `run`
-/// reads a script from `source`, and replies to each line as it ends (docs/FORMAT.md, 'Scripts'). Words that are no line of the table
-/// are 2, and so is a script that is none; a fault of the source is 5, of the sink 6; a refusal has its own status, and so has want of
-/// memory, also for the words. `work` runs workers in threads of their own, each of whose jobs stands between the two calls of `gate`, and
-/// promises what it promises if it returns. `check` writes a line for each damage as it is found, and is 7 where there is one. `notes` get a
-/// line where the status isn't 0, but for that; a failure of theirs changes no status.
+/// `ingest` reads `source`, to its end where it is done; the reply, or the bytes of the file that is restored, goes to `sink`. `run` reads
+/// a script from `source`, and replies to each line as it ends (docs/FORMAT.md, 'Scripts'). Words that are no line of the table are 2, and
+/// so is a script that is none; a fault of the source is 5, of the sink 6; a refusal has its own status, and so has want of memory, also
+/// for the words. `work` runs workers in threads of their own, each of whose jobs stands between the two calls of `gate`, and promises what
+/// it promises if it returns. `check` writes a line for each damage as it is found, and is 7 where there is one. `notes` get a line where
+/// the status isn't 0, but for that; a failure of theirs changes no status.
 pub fn backup<
     D: Disk + Send,
     S: Source,

@@ -19,8 +19,7 @@ use ingest_workers::{Gate, Job};
 use refusals::Refusal;
 use reply_text::{Ending, summary_text};
 use shared_work::{
-    Finished, Summary, a_work_is_a_run, a_work_is_complete, a_work_leaves_its_files,
-    a_work_may_end_so, work_through,
+    Finished, Summary, a_work_is_a_run, a_work_is_complete, a_work_leaves_its_files, work_through,
 };
 use std::alloc::{AllocError, Global};
 use std::sync::Wait;
@@ -92,7 +91,6 @@ pub(crate) fn work<D: Disk + Send, K: Sink, G: Gate + Sync, R: Threads + Wait + 
     an_opening_is_the_machines::<&mut D, Core<&mut D, NoSummary>>();
     a_work_is_a_run::<Core<&mut D, NoSummary>>();
     a_work_leaves_its_files::<Core<&mut D, NoSummary>>();
-    a_work_may_end_so::<Core<&mut D, NoSummary>>();
     a_work_is_complete::<Core<&mut D, NoSummary>>();
     let mut buf = SegBuf::new(alloc)?;
     let jobs = jobs_for(alloc, load)?;

@@ -25,7 +25,7 @@ use Rattle.ingest_workers.specs.declared.job.JobEnd.{JobEnd}
 use Rattle.ingest_workers.specs.Ingesting.{ask_of, asks_of}
 use Rattle.ingest_workers.specs.Jobs.{OwnJobs}
 use Rattle.shared_work.specs.Freed.{IsOpening, StoresStay, WorkersComeFree}
-use Rattle.shared_work.specs.Working.{AreWorked, AskedAs, AskedByWorker, CollectsOften, Ended, HasTaken, HasWorked, IsNew, JoinsAll, WorksBeside}
+use Rattle.shared_work.specs.Working.{AreWorked, AskedAs, AskedByWorker, CollectsBeside, Ended, HasTaken, HasWorked, IsNew, JoinsAll, WorksBeside}
 use Rattle.shared_work.proofs.Freed.{ask_back, asks_by_steps}
 use Rattle.shared_work.proofs.Taking.{Asked, Knows, in_up_to, knows, past_up_to, taken_all}
 
@@ -82,7 +82,7 @@ module _ {C : Type 0} (state : C → CoreState) where
 
   module _ (o : C) (store : TableId) (asked : AsksAreTold state) (none : TellsNone actor_in (MakesStep state)) (on : TellsOn actor_in (MakesStep state)) where
     pub has_worked : (count percent : ℕ) (jobs : List Job) (ended : Option (List JobEnd)) (collected : Result (Unit {0}) Refusal) (collector : Caller) (callers : List Caller)
-        (pass : PassValue C) (all : List Ask) → Asked state o store 0 all collector → CollectsOften percent collected all → length callers ≡ count
+        (pass : PassValue C) (all : List Ask) → Asked state o store 0 all collector → CollectsBeside percent collected all → length callers ≡ count
         → ((worker : ℕ) (d : Caller) → worker < count → Did o store count jobs ended worker (get_or callers worker d)) → JoinsAll state collector.0 (map (λ c. c.0) callers) pass
         → HasWorked state o count percent jobs ended collected pass
     has_worked count percent jobs ended collected collector callers pass all began collects many did joins = record {
@@ -128,7 +128,7 @@ module _ {C : Type 0} (state : C → CoreState) where
     run = same;
     each = tt;
     workers = λ worker below. subst (λ (e : Option (List JobEnd)). AskedByWorker count worker jobs e []) (sym none) refl;
-    collector = Ended all_right;
+    collector = Ended 1024 all_right;
     others = λ actor high. refl;
   }
 
@@ -165,7 +165,7 @@ module _ {C : Type 0} (state : C → CoreState) where
       each = all_below count es few (λ x high. r.1 x ∙ (of x).2.1 high) steps.1;
       workers = λ worker below. let low : suc worker ≤ count = omega arith in
           subst (AskedByWorker count worker jobs ended) (sym (own (suc worker) low)) (worked.each (suc worker) low);
-      collector = let low : 0 ≤ count = omega arith in subst (CollectsOften percent collected) (sym (own 0 low)) (worked.each 0 low);
+      collector = let low : 0 ≤ count = omega arith in subst (CollectsBeside percent collected) (sym (own 0 low)) (worked.each 0 low);
       others = λ x high. asks_are x ∙ ap (λ (l : List Event). map ask_of l) ((of x).2.1 high);
     }
       where

@@ -11,7 +11,7 @@ use Rattle.refusals.specs.declared.refusal.Refusal.TheVariants as refusals
 use Rattle.refusals.specs.declared.refusal.Difference.{Difference}
 use Rattle.store_model.specs.Collisions.{ByteSet, HasNoCollisions, IsIn}
 use Rattle.store_core.specs.Core.{CoreStep}
-use Rattle.store_core.specs.Runs.{CoreRun, FileEvent, FileRun, RunsOn, events_of}
+use Rattle.store_core.specs.Runs.{CoreRun, RunsOn, events_of}
 use Rattle.store_core.specs.State.{CoreState, Event}
 use Rattle.store_machine.specs.ByMap.{FileMachine}
 use Rattle.store_machine.specs.Legal.{Answers}
@@ -25,7 +25,7 @@ use Rattle.ingest_workers.specs.Owing.{AreAllOwed, AreOwed, IsOwed, OwedRunsAreR
 use Rattle.shared_work.specs.Clashing.{IsHeldBetween, IsHeldNode, IsNoClash, IsNodeOf, NoneClashes}
 use Rattle.shared_work.proofs.Clashing.{claim_clear, seal_clear}
 use Rattle.shared_work.proofs.CompleteLeaves.{ask}
-use Rattle.shared_work.proofs.EachStep.{Goes, each_step}
+use Rattle.shared_work.proofs.EachStep.{Goes, each_step, steps_run}
 
 -- ---- what was owed at a place
 
@@ -53,10 +53,6 @@ not_read [] after key at is = is
 not_read (bytes ∷ rest) after key at is = is
 
 module _ {C : Type 0} (state : C → CoreState) (refine : FilesRefine C state) (runs_on : RunsOn C state) where
-  steps_run : (S : List ℕ → Type 0) (fs : List FileEvent) (c new : C) → FileRun C state S fs c new → CoreRun C state (events_of fs) c new
-  steps_run S [] c new run = run
-  steps_run S (f ∷ fs) c new (mid, (made, rest)) = (mid, (made.made, steps_run S fs mid new rest))
-
   push_run : (es : List Event) (e : Event) (old c d : C) → CoreRun C state es old c → CoreStep (state c) e (state d) → CoreRun C state (es ++ e ∷ []) old d
   push_run [] e old c d run made = (d, (subst (λ (x : C). CoreStep (state x) e (state d)) run made, refl))
   push_run (x ∷ es) e old c d (mid, (first, rest)) made = (mid, (first, push_run es e mid c d rest made))
@@ -118,7 +114,7 @@ module _ {C : Type 0} (state : C → CoreState) (refine : FilesRefine C state) (
           mid = c;
           steps_are = moment.es_are;
           first = first;
-          then_run = (d, (moment.made.made, steps_run S fs d new moment.rest));
+          then_run = (d, (moment.made.made, steps_run state S fs d new moment.rest));
           held = (content, tells, is);
         }) in (
           clear_here e.actor f.bytes e.buf m n content changed.0 held (asks_of e.actor before) e.step e.answer owes moment.answers changed.2,

@@ -1,6 +1,6 @@
 -- At each moment of a run each worker is at what its next step takes, and has the name that this is of; so no step is refused but by what
 -- may refuse it.
-use Rattle.std.proofs.Common.{◌≡◌, ◌≢◌, ◌⊎◌, inl, inr, ◌≤◌, ◌<◌, ◌^◌, ℕ, zero, suc, Bool, true, List, [], ◌∷◌, ◌++◌, length, is_some, Option, Some, None, Result, Ok, Err, refl, sym, ap, ◌∙◌, subst, arith}
+use Rattle.std.proofs.Common.{◌≡◌, ◌≢◌, ◌⊎◌, inl, inr, ◌≤◌, ◌<◌, ◌^◌, ℕ, zero, suc, Bool, true, List, [], ◌∷◌, ◌++◌, length, is_some, Option, Some, None, Result, Ok, Err, IfErr, refl, sym, ap, ◌∙◌, subst, arith}
 use Rattle.std.proofs.lemmas.Bool.{cases_lt}
 use mathlib.Core.Logic.{dite}
 use native.Mathlib.Decide.{ℕ_discrete}
@@ -33,7 +33,7 @@ use Rattle.ingest_workers.specs.Ingesting.{ask_of, asks_of}
 use Rattle.ingest_workers.specs.Jobs.{temp_name, work_name}
 use Rattle.ingest_workers.specs.Named.{HasStreams, StreamsStay, own_by}
 use Rattle.ingest_workers.specs.Owing.{IsOfStream, own_files}
-use Rattle.shared_work.specs.Complete.{AskedBeside, MayAnswer, MayAsk, runs_after}
+use Rattle.shared_work.specs.Complete.{AskedBeside, MayAsk, MayRefuse, runs_after}
 use Rattle.shared_work.proofs.CompleteLeaves.{Leaves, ask, step_leaves}
 use Rattle.shared_work.proofs.CompleteNames.{IsIn, fewer, mine_in, mine_named, names_many, names_of, not_anothers}
 use Rattle.shared_work.proofs.CompleteRows.{IsSure, Suits, refused_may}
@@ -225,7 +225,7 @@ module _ {C : Type 0} (state : C → CoreState) (count : ℕ) (jobs : List Job) 
     module _ (follow : KindsFollow C state) (others_stay : OthersStay C state) (stay : StreamsStay) (S : List ℕ → Type 0) (es : List Event) (new : C)
         (each : AllByRecursion (λ e. e.actor < ACTORS) es) where
       may_here : (a : ℕ) (bytes buf : List ℕ) (m n : FileMachine) (step : StepValue) (answer : Result Answer Refusal) → Suits (taken_by (ask bytes step)) (kind_of (part_in m a))
-          → IsSure m (ask bytes step) → Answers of_files a (ask bytes step) (answered_by answer buf) m n → MayAnswer answer
+          → IsSure m (ask bytes step) → Answers of_files a (ask bytes step) (answered_by answer buf) m n → IfErr answer MayRefuse
       may_here a bytes buf m n step (Ok answer) suits sure is = tt
       may_here a bytes buf m n step (Err refusal) suits sure is = refused_may a m n (ask bytes step) refusal suits sure is
 
@@ -238,7 +238,7 @@ module _ {C : Type 0} (state : C → CoreState) (count : ℕ) (jobs : List Job) 
       abbrev pub Holds : List Event → List Event → FileMachine → C → Type 0
       Holds before rest m c = Before m c rest
 
-      pub goes : Goes state own S es new (λ e. MayAnswer e.answer) Holds
+      pub goes : Goes state own S es new (λ e. IfErr e.answer MayRefuse) Holds
       goes before f fs m n c d moment holds =
           let e : Event = f.event in
           let right = is_right e f.bytes (events_of fs) m n c d S moment.machine holds in

@@ -46,16 +46,16 @@ module _ (more : List Ask) where
   once percent result all (Unbegun a refusal is step refused) follows =
       next false a more (asked.GcStart percent) (Err refusal) step refused refl (subst (AskedBeside false) (sym (follows.1 refusal is)) tt)
 
-often : (percent : ℕ) (result : Result (Unit {0}) Refusal) (all : List Ask) → CollectsOften percent result all → (more : List Ask) → Follows more result
+often : (percent : ℕ) (result : Result (Unit {0}) Refusal) (most : ℕ) (all : List Ask) → CollectsOften percent result most all → (more : List Ask) → Follows more result
     → AskedBeside false (all ++ more)
-often percent result all (Ended is) more follows = follows.0 is
-often percent result all (Broke refusal steps is first) more follows = once more percent (Err refusal) steps first (
+often percent result most all (Ended _ is) more follows = follows.0 is
+often percent result most all (Broke _ refusal steps is first) more follows = once more percent (Err refusal) steps first (
   λ done. follows.0 (is ∙ done),
   λ other same. follows.1 other (is ∙ same),
 )
-often percent result all (Again steps rest first later) more follows =
+often percent result most all (Again less steps rest first later) more follows =
     subst (AskedBeside false) (sym (append_assoc steps rest more))
-    (once (rest ++ more) percent (Ok tt) steps first (λ done. often percent result rest later more follows, λ refusal wrong. absurd (cc)))
+    (once (rest ++ more) percent (Ok tt) steps first (λ done. often percent result less rest later more follows, λ refusal wrong. absurd (cc)))
 
 pub collections_are_beside : CollectionsAreBeside
-collections_are_beside percent result all more collects follows nothing = often percent result all collects more (follows, nothing)
+collections_are_beside percent result all more collects follows nothing = often percent result 1024 all collects more (follows, nothing)

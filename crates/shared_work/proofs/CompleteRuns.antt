@@ -1,13 +1,15 @@
 -- What workers ask for is done, and so are their jobs.
-use Rattle.std.proofs.Common.{◌≡◌, inl, inr, ◌≤◌, ◌<◌, ◌^◌, ℕ, zero, suc, true, false, List, [], ◌∷◌, ◌++◌, is_some, slice_index_or, replicate, Some, None, refl, sym, ap, ◌∙◌, subst, arith}
+use Rattle.std.proofs.Common.{◌≡◌, inl, inr, ◌≤◌, ◌<◌, ◌^◌, ℕ, zero, suc, true, false, List, [], ◌∷◌, ◌++◌, is_some, slice_index_or, replicate, Some, None, Result, IfErr, refl, sym, ap, ◌∙◌, subst, arith}
 use Rattle.std.proofs.lemmas.Bool.{cases_lt}
 use Rattle.std.specs.List.{AllByRecursion}
 use Rattle.disk_format.specs.declared.numbers.TheConstants.{MOST_FILE}
 use Rattle.actor_parts.specs.declared.actor.TheConstants.{ACTORS}
+use Rattle.actor_parts.specs.declared.step.Answer.{Answer}
 use Rattle.actor_parts.specs.Asking.{Ask}
 use Rattle.actor_parts.specs.StepValue as steps
 use Rattle.actor_parts.specs.StepValue.{IsStep, StepValue}
 use Rattle.refusals.specs.declared.refusal.PartKind.TheVariants as kinds
+use Rattle.refusals.specs.declared.refusal.Refusal.{Refusal}
 use Rattle.store_model.specs.Collisions.{IsIn as IsInSet}
 use Rattle.store_core.specs.Runs.{FileEvent, RunsOn, events_of}
 use Rattle.store_core.specs.State.{CoreState, Event}
@@ -20,9 +22,9 @@ use Rattle.ingest_workers.specs.declared.job.JobEnd.{JobEnd}
 use Rattle.ingest_workers.specs.Ingesting.{asks_of}
 use Rattle.ingest_workers.specs.Named.{StreamsStay, own_by}
 use Rattle.ingest_workers.specs.Owing.{AreAllOwed, AreOwed, IsOwed, JobsAreOwed, OwedRunsAreRight, own_files}
-use Rattle.shared_work.specs.Complete.{AreWorkersSteps, AskedBeside, IsEmptyAt, MayAnswer, MayAsk, WhatWorkersAskIsDone, runs_after}
+use Rattle.shared_work.specs.Complete.{AreWorkersSteps, AskedBeside, IsEmptyAt, MayAsk, MayRefuse, WhatWorkersAskIsDone, runs_after}
 use Rattle.shared_work.proofs.Complete.{Before, Holds, goes}
-use Rattle.shared_work.proofs.CompleteJobs.{asks_may, jobs_may}
+use Rattle.shared_work.proofs.RefusedJobs.{asks_may, jobs_may}
 use Rattle.shared_work.proofs.CompleteNames.{own_file}
 use Rattle.shared_work.proofs.CompleteSteps.{same_kind}
 use Rattle.shared_work.proofs.EachStep.{each_step}
@@ -85,6 +87,9 @@ module _ {C : Type 0} (state : C → CoreState) (refine : FilesRefine C state) (
       streams = λ name bytes got. absurd (let wrong : None ≡ Some bytes = sym (empty.no_names name) ∙ got in cc);
     }
 
+  abbrev MayBe : Result Answer Refusal → Type 0
+  MayBe answer = IfErr answer MayRefuse
+
   pub what_workers_ask_is_done : WhatWorkersAskIsDone C state
   what_workers_ask_is_done among count jobs ended es m old new distinct segments empty run steps_are =
       let right = rightly among (own_by count jobs) es m.store (stored_in m.now) old new distinct segments at.is_at at.settled steps_are.each run
@@ -94,15 +99,21 @@ module _ {C : Type 0} (state : C → CoreState) (refine : FilesRefine C state) (
       let within = each_right (λ e. IsStep e.step) (λ e. e.actor < ACTORS) es steps_are.each in
       let before : Before state count jobs m old (events_of fs) =
       subst (Before state count jobs m old) (sym right.events_are) (begins count jobs ended es steps_are (IsInSet among) m old empty) in
-      let all : AllByRecursion (λ e. MayAnswer e.answer) es = subst (AllByRecursion (λ e. MayAnswer e.answer)) right.events_are
-      (each_step state refine runs_on among distinct (own_by count jobs) es new (λ e. MayAnswer e.answer)
-      (λ e. (λ answer told. subst MayAnswer (sym told) tt, λ stopped. subst MayAnswer (sym stopped.1) tt))
+      let all : AllByRecursion (λ e. IfErr e.answer MayRefuse) es = subst (AllByRecursion (λ e. IfErr e.answer MayRefuse)) right.events_are
+      (each_step state refine runs_on among distinct (own_by count jobs) es new (λ e. IfErr e.answer MayRefuse)
+      (λ e. (λ answer told. subst MayBe (sym told) tt, λ stopped. subst MayBe (sym stopped.1) tt))
       (Holds state count jobs steps_are.few small follow others_stay stay (IsInSet among) es new within)
       (goes state count jobs steps_are.few small follow others_stay stay (IsInSet among) es new within) [] fs m old (sym right.events_are) empty.running empty.machine
       empty.runs right.of_streams right.run before) in (
         all,
-        jobs_may count jobs ended steps_are.some (each_right (λ j. j.number < 2 ^ 64) (λ j. j.length ≤ MOST_FILE) jobs steps_are.small)
-            (λ worker below. (asks_of (suc worker) es, (steps_are.workers worker below, asks_may (suc worker) es all))),
+        jobs_may MayRefuse tt (λ n. n ≤ MOST_FILE) (λ n fits long. absurd (omega (arith, fits, long))) count jobs ended steps_are.some
+            (each_right (λ j. j.number < 2 ^ 64) (λ j. j.length ≤ MOST_FILE) jobs steps_are.small) (λ worker below. (
+              asks_of (suc worker) es,
+              (
+                steps_are.workers worker below,
+                asks_may MayRefuse tt (λ n. n ≤ MOST_FILE) (λ n fits long. absurd (omega (arith, fits, long))) (suc worker) es all,
+              ),
+            )),
       )
     where
       at : IsAtFiles (IsInSet among) m (state old)

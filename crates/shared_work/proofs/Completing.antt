@@ -1,26 +1,33 @@
--- No step of a whole load clashes or lacks a pin, where no two different nodes have one digest; so it ends for neither.
-use Rattle.std.proofs.Common.{◌≡◌, ◌⊎◌, inl, inr, ℕ, zero, suc, List, [], ◌∷◌, Result, Ok, Err, refl, sym, ap, ◌∙◌, subst, arith, ne_eqb}
+-- Each step of a whole load in a store without names is done or refused for its cause, and so is the whole.
+use Rattle.std.proofs.Common.{◌≡◌, ◌⊎◌, inl, inr, ◌≤◌, ◌<◌, ◌^◌, ℕ, zero, suc, List, [], ◌∷◌, Result, Ok, Err, IfErr, refl, sym, ap, ◌∙◌, subst, arith, ne_eqb}
 use Rattle.std.specs.List.{AllByRecursion}
+use Rattle.dd_disk.specs.View.{DiskView}
+use Rattle.disk_format.specs.declared.numbers.TheConstants.{MOST_FILE}
 use Rattle.actor_parts.specs.declared.step.Answer.{Answer}
 use Rattle.actor_parts.specs.Asking.{Ask}
 use Rattle.actor_parts.specs.StepValue as asked
+use Rattle.load_stream.specs.Load.{LoadState}
 use Rattle.refusals.specs.declared.refusal.Refusal.{Refusal}
-use Rattle.refusals.specs.declared.refusal.Refusal.TheVariants.{Clash, Unpinned}
+use Rattle.refusals.specs.declared.refusal.Refusal.TheVariants as refusals
+use Rattle.store_model.specs.Collisions.{HasNoCollisions, IsIn}
+use Rattle.store_core.specs.Runs.{RunsOn}
 use Rattle.store_core.specs.State.{CoreState, Event}
 use Rattle.store_core.proofs.CoreRuns.{run_later}
 use Rattle.store_machine.specs.Machine.{RunState}
-use Rattle.core_machine.specs.Files.{FitsBy, IsAtFiles}
+use Rattle.core_machine.specs.Files.{FilesRefine, FitsBy, IsAtFiles}
 use Rattle.ingest_workers.specs.declared.job.Job.{Job}
-use Rattle.ingest_workers.specs.Owing.{AreAllOwed, AreOwed, JobsAreOwed}
+use Rattle.ingest_workers.specs.Owing.{AreAllOwed, AreOwed, JobsAreOwed, OwedRunsAreRight}
 use Rattle.shared_store.specs.Telling.{event_of}
-use Rattle.store_model.specs.Collisions.{IsIn}
-use Rattle.shared_work.specs.Clashing.{IsHeldBetween, IsNoClash, IsNodeOf, NoneClashes}
-use Rattle.shared_work.specs.Completing.{IsHeldSince, IsNoTwin, IsWorkNode, WorksAreComplete}
+use Rattle.shared_work.specs.Clashing.{IsHeldBetween, IsHeldNode, IsNoClash, IsNodeOf, NoneClashes}
+use Rattle.shared_work.specs.Complete.{MayRefuse, WhatWorkersAskIsDone}
+use Rattle.shared_work.specs.Completing.{IsCause, IsWorkNode, ShownSince, WorksAreComplete}
 use Rattle.shared_work.specs.Pinning.{IsPinned, NoneLacksPin}
 use Rattle.shared_work.specs.Whole.{Outcome, Plan, WorkSteps, streams_of}
 use Rattle.shared_work.proofs.Due.{all_owed, all_steps, asks_others}
+use Rattle.shared_work.proofs.Ending.{each_may, none_named}
 use Rattle.shared_work.proofs.Leaving.{beginning}
-use Rattle.shared_work.proofs.RefusedJobs.{MayAnswer, work_may}
+use Rattle.shared_work.proofs.RefusedJobs.{work_may}
+use Rattle.shared_work.proofs.Shown.{IsShown, each_shown}
 
 -- ---- what is due
 
@@ -48,29 +55,48 @@ steps_owed owed plan came steps w =
           subst (AreAllOwed (streams_of plan)) (sym all_is) (all_owed owed plan came first w.rest refl on)
     ])
 
--- ---- each answer
+-- ---- each refusal
 
-neither : (answer : Result Answer Refusal) → IsNoClash answer → IsPinned answer → MayAnswer IsNoTwin answer
-neither (Ok answer) clear pinned = tt
-neither (Err (Clash key at)) clear pinned = clear
-neither (Err (Unpinned key)) clear pinned = pinned
-neither (Err refusal) clear pinned = tt
+module _ (plan : Plan) (first last : DiskView) where
+  -- it may be, an image shows what one may show, and no step clashes or lacks a pin where there are no two such nodes: so it has its cause
+  has_cause : (refusal : Refusal) → MayRefuse refusal → (HasNoCollisions (IsWorkNode plan first last) → IsNoClash (Err refusal))
+      → (HasNoCollisions (IsNodeOf (streams_of plan)) → IsPinned (Err refusal)) → IsShown first last refusal → IsCause plan first last refusal
+  has_cause refusals.Memory may clear pinned shown = tt
+  has_cause (refusals.Full free) may clear pinned shown = shown
+  has_cause refusals.Numbers may clear pinned shown = shown
+  has_cause refusals.DiskRead may clear pinned shown = tt
+  has_cause refusals.DiskWrite may clear pinned shown = tt
+  has_cause (refusals.Stopped at) may clear pinned shown = tt
+  has_cause (refusals.Clash key at) may clear pinned shown = clear
+  has_cause (refusals.Unpinned key) may clear pinned shown = pinned
+  has_cause refusal may clear pinned shown = absurd may
 
-each_neither : (es : List Event) → AllByRecursion (λ e. IsNoClash e.answer) es → AllByRecursion (λ e. IsPinned e.answer) es
-    → AllByRecursion (λ e. MayAnswer IsNoTwin e.answer) es
-each_neither [] clear pinned = tt
-each_neither (e ∷ es) clear pinned = (neither e.answer clear.0 pinned.0, each_neither es clear.1 pinned.1)
+  answer_cause : (answer : Result Answer Refusal) → IfErr answer MayRefuse → (HasNoCollisions (IsWorkNode plan first last) → IsNoClash answer)
+      → (HasNoCollisions (IsNodeOf (streams_of plan)) → IsPinned answer) → IfErr answer (IsShown first last) → IfErr answer (IsCause plan first last)
+  answer_cause (Ok answer) may clear pinned shown = tt
+  answer_cause (Err refusal) may clear pinned shown = has_cause refusal may clear pinned shown
 
--- jobs of any length
-all_fit : (jobs : List Job) → AllByRecursion (λ j. Unit {0}) jobs
-all_fit [] = tt
-all_fit (job ∷ jobs) = (tt, all_fit jobs)
+  each_cause : (es : List Event) → AllByRecursion (λ e. IfErr e.answer MayRefuse) es
+      → (HasNoCollisions (IsWorkNode plan first last) → AllByRecursion (λ e. IsNoClash e.answer) es)
+      → (HasNoCollisions (IsNodeOf (streams_of plan)) → AllByRecursion (λ e. IsPinned e.answer) es)
+      → AllByRecursion (λ e. IfErr e.answer (IsShown first last)) es → AllByRecursion (λ e. IfErr e.answer (IsCause plan first last)) es
+  each_cause [] may clear pinned shown = tt
+  each_cause (e ∷ es) may clear pinned shown = (
+    answer_cause e.answer may.0 (λ apart. (clear apart).0) (λ apart. (pinned apart).0) shown.0,
+    each_cause es may.1 (λ apart. (clear apart).1) (λ apart. (pinned apart).1) shown.1,
+  )
+
+-- files are no longer than one may be
+all_fit : (jobs : List Job) → AllByRecursion (λ j. (j.number < 2 ^ 64) × (j.length ≤ MOST_FILE)) jobs → AllByRecursion (λ j. j.length ≤ MOST_FILE) jobs
+all_fit [] small = tt
+all_fit (job ∷ jobs) small = (small.0.1, all_fit jobs small.1)
 
 -- ---- the law
 
 module _ {C : Type 0} (state : C → CoreState) where
   -- what the disk tells between some steps is what a crash might have left then
-  held_since : (es : List Event) (old new : C) (bytes : List ℕ) → IsHeldBetween state es old new bytes → IsHeldSince (state old).disk (state new).disk bytes
+  held_since : (es : List Event) (old new : C) (bytes : List ℕ) → IsHeldBetween state es old new bytes
+      → ShownSince (state old).disk (state new).disk (IsHeldNode bytes)
   held_since es old new bytes is =
       let mid = (state is.mid).disk in
       let start : ℕ = (state old).disk.clock in
@@ -84,16 +110,36 @@ module _ {C : Type 0} (state : C → CoreState) where
   node_of es old new plan bytes (inl node) = inl node
   node_of es old new plan bytes (inr held) = inr (held_since es old new bytes held)
 
-  pub works_are_complete : NoneClashes C state → NoneLacksPin C state → JobsAreOwed → WorksAreComplete C state
-  works_are_complete none_clash none_lack owed among plan came m old new distinct segments some up machine going apart works refusal is =
-      let own = streams_of plan in
-      let due = steps_owed owed plan came works.steps works.steps_are in
-      let clear = none_clash among own works.steps m at.is_at.stands.known.0 old new distinct segments up machine going works.each works.run due at.is_at.stands.known.1
-      (λ a b a_is b_is. apart a b (node_of works.steps old new plan a a_is) (node_of works.steps old new plan b b_is)) in
-      let pinned = none_lack among own works.steps m old new distinct segments up machine going works.each works.run due
-      (λ a b a_is b_is. apart a b (inl a_is) (inl b_is)) in
-      work_may IsNoTwin tt (λ n. Unit {0}) (λ n fits over. tt) plan came works.steps refusal some (all_fit plan.jobs) (λ files. tt) works.steps_are
-      (each_neither works.steps clear pinned) is
+  pub works_are_complete : FilesRefine C state → RunsOn C state → OwedRunsAreRight C state → WhatWorkersAskIsDone C state → NoneClashes C state → NoneLacksPin C state → JobsAreOwed
+      → WorksAreComplete C state
+  works_are_complete refine runs_on rightly done none_clash none_lack owed among plan came m old new distinct segments small empty last works =
+      (each, by came refl)
     where
+      own : ℕ → List LoadState
+      own = streams_of plan
+
+      Cause : Refusal → Type 0
+      Cause = IsCause plan (state old).disk (state new).disk
+
       at : IsAtFiles (IsIn among) m (state old)
-      at = subst (λ (s : RunState (List ℕ)). FitsBy s (IsIn among) m (state old)) going machine.fits
+      at = subst (λ (s : RunState (List ℕ)). FitsBy s (IsIn among) m (state old)) empty.runs empty.machine.fits
+
+      due : AreAllOwed own works.steps
+      due = steps_owed owed plan came works.steps works.steps_are
+
+      clear : HasNoCollisions (IsWorkNode plan (state old).disk (state new).disk) → AllByRecursion (λ e. IsNoClash e.answer) works.steps
+      clear apart = none_clash among own works.steps m at.is_at.stands.known.0 old new distinct segments empty.running empty.machine empty.runs works.each works.run due
+          at.is_at.stands.known.1 (λ a b a_is b_is. apart a b (node_of works.steps old new plan a a_is) (node_of works.steps old new plan b b_is))
+
+      pinned : HasNoCollisions (IsNodeOf own) → AllByRecursion (λ e. IsPinned e.answer) works.steps
+      pinned apart = none_lack among own works.steps m old new distinct segments empty.running empty.machine empty.runs works.each works.run due apart
+
+      each : AllByRecursion (λ e. IfErr e.answer Cause) works.steps
+      each = each_cause plan (state old).disk (state new).disk works.steps (each_may state refine done among plan came m old new distinct segments small empty works) clear pinned
+          (each_shown state refine runs_on rightly among own works.steps m old new distinct segments empty.running empty.machine empty.runs works.each works.run due last)
+
+      by : (outcome : Outcome) → came ≡ outcome → IfErr outcome Cause
+      by (Ok summary) is = tt
+      by (Err refusal) is = work_may Cause tt (λ n. n ≤ MOST_FILE) (λ n fits long. absurd (omega (arith, fits, long))) plan came works.steps refusal small.some
+          (all_fit plan.jobs small.small) works.steps_are
+          (λ file more told. absurd (none_named state refine done among plan came m old new distinct segments small empty works file more told)) each is

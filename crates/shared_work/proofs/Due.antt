@@ -1,5 +1,5 @@
 -- What a whole load asks for is due: of the first actor whatever came before, and of workers by their jobs' files.
-use Rattle.std.proofs.Common.{◌≡◌, ◌<◌, ◌≤◌, ◌==◌, if◌then◌else◌, ℕ, zero, suc, Bool, true, false, List, [], ◌∷◌, ◌++◌, map, Option, Some, None, Result, Ok, Err, refl, ap, ◌∙◌, sym, subst, arith, eq-eqb, inl, inr, ne_eqb}
+use Rattle.std.proofs.Common.{◌≡◌, ◌==◌, if◌then◌else◌, ℕ, zero, suc, Bool, true, false, List, [], ◌∷◌, ◌++◌, map, Option, Some, None, Result, Ok, Err, refl, ap, ◌∙◌, sym, subst, arith, eq-eqb, inl, inr, ne_eqb}
 use Rattle.std.specs.List.{AllByRecursion}
 use Rattle.std.proofs.lemmas.Bool.{cases_lt}
 use Rattle.std.proofs.lemmas.List.{append-nil}
@@ -14,7 +14,7 @@ use Rattle.ingest_workers.specs.Ingesting.{ask_of, asks_of}
 use Rattle.ingest_workers.specs.Owing.{AreAllOwed, AreOwed, IsOwed, JobsAreOwed, own_files}
 use Rattle.ingest_workers.specs.declared.job.Job.{Job}
 use Rattle.refusals.specs.declared.refusal.Refusal.{Refusal}
-use Rattle.shared_work.specs.Whole.{Concludes, EndsBy, Outcome, Plan, WorksOnEmpty, refused_in, streams_of}
+use Rattle.shared_work.specs.Whole.{EndsBy, Outcome, Plan, WorksOnEmpty, refused_in, streams_of}
 use Rattle.shared_work.specs.Working.{Again, AskedByWorker, Broke, CollectsOften, Ended}
 use Rattle.shared_work.proofs.Filling.{conclude_asks, once_asks}
 
@@ -45,11 +45,11 @@ free_append : (xs ys : List Ask) → AreFree xs → AreFree ys → AreFree (xs +
 free_append [] ys first second = second
 free_append (x ∷ xs) ys first second = (first.0, free_append xs ys first.1 second)
 
-often_free : (percent : ℕ) (result : Result (Unit {0}) Refusal) (all : List Ask) → CollectsOften percent result all → AreFree all
-often_free percent result all (Ended is) = tt
-often_free percent result all (Broke refusal _ is once) = once_asks IsFree (λ some. tt) tt percent (Err refusal) all once
-often_free percent result _ (Again first more once often) =
-    free_append first more (once_asks IsFree (λ some. tt) tt percent (Ok tt) first once) (often_free percent result more often)
+often_free : (percent : ℕ) (result : Result (Unit {0}) Refusal) (most : ℕ) (all : List Ask) → CollectsOften percent result most all → AreFree all
+often_free percent result most all (Ended _ is) = tt
+often_free percent result most all (Broke _ refusal _ is once) = once_asks IsFree (λ some. tt) tt percent (Err refusal) all once
+often_free percent result _ _ (Again less first more once often) =
+    free_append first more (once_asks IsFree (λ some. tt) tt percent (Ok tt) first once) (often_free percent result less more often)
 
 last_free : (percent : ℕ) (refused : Option Refusal) (came : Outcome) (last : List Ask) → EndsBy percent refused came last → AreFree last
 last_free percent (Some refusal) came last ends = subst AreFree (sym ends.0) tt
@@ -108,7 +108,7 @@ all_owed owed plan came first rest step_is on zero =
     subst (AreOwed [] []) (sym (by_first first on.beside on.last))
     (free_owed [] [] (first ∷ (asks_of 0 on.beside ++ on.last)) (
       subst (λ (s : StepValue). IsFree s) (sym step_is) tt,
-      free_append (asks_of 0 on.beside) on.last (often_free plan.percent on.collected (asks_of 0 on.beside) on.collector)
+      free_append (asks_of 0 on.beside) on.last (often_free plan.percent on.collected 1024 (asks_of 0 on.beside) on.collector)
           (last_free plan.percent (refused_in on.ended on.collected) came on.last on.ends),
     ))
 all_owed owed plan came first rest step_is on (suc worker) =

@@ -8,7 +8,7 @@ use Rattle.refusals.specs.declared.refusal.Refusal.{Refusal}
 use Rattle.refusals.specs.declared.refusal.Refusal.TheVariants as refusals
 use Rattle.store_model.specs.Collisions.{ByteSet, HasNoCollisions, IsIn}
 use Rattle.store_model.specs.Image.{Store}
-use Rattle.store_core.specs.Runs.{FileEvent, FileRun, FileStep, RunsOn, events_of}
+use Rattle.store_core.specs.Runs.{CoreRun, FileEvent, FileRun, FileStep, RunsOn, events_of}
 use Rattle.store_core.specs.State.{CoreState, Event, IsRunning}
 use Rattle.store_machine.specs.ByMap.{FileMachine}
 use Rattle.store_machine.specs.Legal.{Answers, ByState}
@@ -29,6 +29,12 @@ IsToldStopped e = (at : ℕ) × (e.answer ≡ Err (refusals.Stopped at))
 
 abbrev pub StoppedOr : (Event → Type 0) → Type 0
 StoppedOr P = (e : Event) → ((answer : Answer) → e.answer ≡ Ok answer → P e) × (IsToldStopped e → P e)
+
+-- steps that are given bytes are steps
+pub steps_run : {C : Type 0} (state : C → CoreState) (S : List ℕ → Type 0) (fs : List FileEvent) (c new : C) → FileRun C state S fs c new
+    → CoreRun C state (events_of fs) c new
+steps_run state S [] c new run = run
+steps_run state S (f ∷ fs) c new (mid, (made, rest)) = (mid, (made.made, steps_run state S fs mid new rest))
 
 module _ {C : Type 0} (state : C → CoreState) (own : ℕ → List LoadState) (S : List ℕ → Type 0) (es : List Event) (new : C) where
   -- One of the steps, after some and before others: a machine that runs answers it, and both are what the core is, before it and after it.

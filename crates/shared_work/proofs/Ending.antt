@@ -1,5 +1,5 @@
--- A whole load in a store without names ends with a summary, or by what may refuse a step of it.
-use Rattle.std.proofs.Common.{◌≡◌, ◌≢◌, ◌<◌, ◌%◌, ◌==◌, ℕ, suc, Bool, true, false, List, [], ◌∷◌, ◌++◌, map, length, Option, Some, None, Result, Ok, Err, refl, sym, ap, ◌∙◌, subst, arith, append-nil, MatchBool}
+-- Each step of a whole load in a store without names is done, or refused by what may refuse it; and no names are listed first.
+use Rattle.std.proofs.Common.{◌≡◌, ◌≢◌, ◌<◌, ◌%◌, ◌==◌, ℕ, suc, Bool, true, false, List, [], ◌∷◌, ◌++◌, map, length, Option, Some, None, Result, Ok, Err, IfErr, refl, sym, ap, ◌∙◌, subst, arith, append-nil, MatchBool}
 use Rattle.std.specs.FinMap as finite
 use Rattle.std.specs.List.{AllByRecursion}
 use Rattle.namespace.specs.Listing.{NamedRoot}
@@ -29,14 +29,13 @@ use Rattle.ingest_workers.specs.Ingesting.{ask_of, asks_of}
 use Rattle.ingest_workers.specs.Jobs.{IsJob, NoTemp, OwnJobs}
 use Rattle.ingest_workers.specs.Named.{own_by}
 use Rattle.shared_store.specs.Telling.{event_of}
-use Rattle.shared_work.specs.Complete.{AreWorkersSteps, AskedBeside, IsEmptyAt, MayAnswer, MayAsk, MayEnd, MayRefuse, WhatWorkersAskIsDone, runs_after}
+use Rattle.shared_work.specs.Complete.{AreWorkersSteps, AskedBeside, IsEmptyAt, MayAsk, MayRefuse, WhatWorkersAskIsDone, runs_after}
 use Rattle.shared_work.specs.declared.whole.Sum.{Sum}
-use Rattle.shared_work.specs.Ending.{IsSmall, MayCome, WorksMayEnd}
-use Rattle.shared_work.specs.Whole.{BeginsBy, Concluded, Concludes, CountsAll, EndsBy, IsOneAsk, Lists, Outcome, Plan, Uncollected, Uncounted, Unlisted, WorksOnEmpty, first_refused, refused_in, refused_of}
-use Rattle.shared_work.specs.Working.{Again, AskedByWorker, Broke, CollectsOften, CollectsOnce, Ended, Swept, Unbegun}
+use Rattle.shared_work.specs.Completing.{IsSmall}
+use Rattle.shared_work.specs.Whole.{BeginsBy, Concluded, Concludes, CountsAll, EndsBy, IsOneAsk, Lists, Outcome, Plan, Uncollected, Uncounted, Unlisted, WorksOnEmpty, WorksThrough, first_refused, refused_in, refused_of, streams_of}
+use Rattle.shared_work.specs.Working.{AskedByWorker, CollectsOnce}
 use Rattle.shared_work.specs.Streams.{HasAllSegments}
 use Rattle.shared_work.proofs.CompleteBeside.{collections_are_beside, next, once}
-use Rattle.shared_work.proofs.CompleteJobs.{AllMay, asks_may, left, refused, right}
 use Rattle.shared_work.proofs.CompleteLeaves.{ask}
 use Rattle.shared_work.proofs.CompleteNames.{none_there}
 use Rattle.shared_work.proofs.CompleteSteps.{first_asked, not_asked}
@@ -128,55 +127,6 @@ none_last percent came last (Some ended) refusal ends_it = by (first_refused end
     by None is = is.0
     by (Some r) is = is.0
 
--- ---- by what it ended
-
-first_may : (ended : List JobEnd) (refusal : Refusal) → AllByRecursion MayEnd ended → first_refused ended ≡ Some refusal → MayRefuse refusal
-first_may [] refusal each is = absurd (let wrong : ◌≡◌ {A = Option Refusal} None (Some refusal) = is in cc)
-first_may (ends.Stored root ∷ ended) refusal each is = first_may ended refusal each.1 is
-first_may (ends.Refused r ∷ ended) refusal each is = subst MayRefuse same each.0
-  where
-    same : r ≡ refusal
-    same = let both : ◌≡◌ {A = Option Refusal} (Some r) (Some refusal) = is in cc
-
-same_err : (r refusal : Refusal) → ◌≡◌ {A = Result (Unit {0}) Refusal} (Err refusal) (Err r) → r ≡ refusal
-same_err r refusal is = cc
-
-once_may : (percent : ℕ) (refusal : Refusal) (all : List Ask) → CollectsOnce percent (Err refusal) all → AllMay all → MayRefuse refusal
-once_may percent refusal all (Swept a steps step done sweeps) each =
-    refused sweeps.last refusal sweeps.ends (right sweeps.steps (sweeps.last ∷ []) (subst AllMay sweeps.all_is each.1)).0
-once_may percent refusal all (Unbegun a r is step denied) each = subst MayRefuse (same_err r refusal is) (refused a r denied each.0)
-
-often_may : (percent : ℕ) (refusal : Refusal) (all : List Ask) → CollectsOften percent (Err refusal) all → AllMay all → MayRefuse refusal
-often_may percent refusal all (Ended is) each = absurd (err_ok refusal is)
-often_may percent refusal all (Broke r steps is collects) each = subst MayRefuse (same_err r refusal is) (once_may percent r steps collects each)
-often_may percent refusal all (Again steps rest collects more) each = often_may percent refusal rest more (right steps rest each)
-
-one_may : (step : StepValue) (refusal : Refusal) (list : List Ask) → IsOneAsk step (Err refusal) list → AllMay list → MayRefuse refusal
-one_may step refusal list (a, (list_is, is, answer)) each = refused a refusal answer (subst AllMay list_is each).0
-
-came_as : (came other : Outcome) → came ≡ other → MayCome other → MayCome came
-came_as came other is may = subst MayCome (sym is) may
-
-concludes_may : (percent : ℕ) (came : Outcome) (last : List Ask) → Concludes percent came last → AllMay last → MayCome came
-concludes_may percent came last (Uncollected refusal all is collects) each = came_as came (Err refusal) is (once_may percent refusal all collects each)
-concludes_may percent came last (Unlisted refusal all list is collects lists) each =
-    came_as came (Err refusal) is (one_may asked.ListNames refusal list lists (right all list each))
-concludes_may percent came last (Uncounted refusal all list count files is collects lists counts) each =
-    came_as came (Err refusal) is (one_may asked.Unique refusal count counts (right list count (right all (list ++ count) each)))
-concludes_may percent came last (Concluded summary all list count is collects lists counts) each = came_as came (Ok summary) is tt
-
-ends_may : (percent : ℕ) (jobs : List Job) (came : Outcome) (last sofar : List Ask) (ended : Option (List JobEnd)) (collected : Result (Unit {0}) Refusal)
-    → EndsBy percent (refused_in ended collected) came last → CollectsOften percent collected sofar → AllByRecursion MayEnd (ended_of jobs ended) → AllMay sofar → AllMay last
-    → MayCome came
-ends_may percent jobs came last sofar None collected (none, is) collects each before after = came_as came (Err Memory) is tt
-ends_may percent jobs came last sofar (Some ended) collected ends_it collects each before after = by (first_refused ended) refl collected ends_it collects
-  where
-    by : (o : Option Refusal) → first_refused ended ≡ o → (result : Result (Unit {0}) Refusal) → EndsBy percent (refused_of o result) came last
-        → CollectsOften percent result sofar → MayCome came
-    by (Some refusal) is result (none, came_is) often = came_as came (Err refusal) came_is (first_may ended refusal each is)
-    by None is (Ok u) concludes often = concludes_may percent came last concludes after
-    by None is (Err refusal) (none, came_is) often = came_as came (Err refusal) came_is (often_may percent refusal sofar often before)
-
 -- ---- the law
 
 no_entries : {X : Type 0} (xs : List X) → length xs ≡ 0 → xs ≡ []
@@ -213,13 +163,11 @@ module _ {C : Type 0} (state : C → CoreState) (refine : FilesRefine C state) (
 
     module _ (segments : HasAllSegments (own_by plan.workers plan.jobs) (IsIn among)) (came : Outcome) (steps : List Event) (run : CoreRun C state steps old new)
         (each : AllByRecursion (λ e. IsStep e.step × (e.actor < ACTORS)) steps) where
-      abbrev Ends : Type 0
-      Ends = AllByRecursion (λ e. MayAnswer e.answer) steps × MayCome came
+      abbrev AllMay : Type 0
+      AllMay = AllByRecursion (λ e. IfErr e.answer MayRefuse) steps
 
-      finish : (ended : List JobEnd) → AreWorkersSteps plan.workers plan.jobs ended steps
-          → (AllByRecursion (λ e. MayAnswer e.answer) steps → AllByRecursion MayEnd ended → MayCome came) → Ends
-      finish ended are more =
-          let all = done among plan.workers plan.jobs ended steps m old new distinct segments empty run are in (all.0, more all.0 all.1)
+      finish : (ended : List JobEnd) → AreWorkersSteps plan.workers plan.jobs ended steps → AllMay
+      finish ended are = (done among plan.workers plan.jobs ended steps m old new distinct segments empty run are).0
 
       module _ (first : Event) (rest : List Event) (steps_is : steps ≡ first ∷ rest) (actor_is : first.actor ≡ 0) (step_is : first.step ≡ asked.ListNames) where
         own_asks : asks_of 0 steps ≡ ask_of first ∷ asks_of 0 rest
@@ -240,10 +188,7 @@ module _ {C : Type 0} (state : C → CoreState) (refine : FilesRefine C state) (
           others = λ actor past. other_asks actor (λ is. omega (arith, is, past)) ∙ others actor past;
         }
 
-        first_answer : AllByRecursion (λ e. MayAnswer e.answer) steps → MayAnswer first.answer
-        first_answer all = (subst (AllByRecursion (λ e. MayAnswer e.answer)) steps_is all).0
-
-        on_empty : WorksOnEmpty plan came rest → Ends
+        on_empty : WorksOnEmpty plan came rest → AllMay
         on_empty w =
             let before : List Ask = asks_of 0 w.beside in
             let own_rest : asks_of 0 rest ≡ before ++ w.last =
@@ -260,27 +205,35 @@ module _ {C : Type 0} (state : C → CoreState) (refine : FilesRefine C state) (
             (λ worker below. subst (OwnJobs plan.workers worker plan.jobs (ended_of plan.jobs w.ended)) (sym (other_rest (suc worker) (λ is. omega (arith, is))))
             (did_by plan.workers worker plan.jobs w.ended (asks_of (suc worker) w.beside) (w.workers worker below)))
             (subst (AskedBeside false) (sym own_rest) beside) (λ actor past. other_rest actor (λ is. omega (arith, is, past)) ∙ w.others actor past))
-            (λ all job_ends.
-            let asks : AllMay (before ++ w.last) = (subst AllMay (own_asks ∙ ap (λ (l : List Ask). ask_of first ∷ l) own_rest) (asks_may 0 steps all)).1 in
-            ends_may plan.percent plan.jobs came w.last before w.ended w.collected w.ends w.collector job_ends (left before w.last asks) (right before w.last asks))
 
-        by_files : (files : List NamedRoot) → first.answer ≡ Ok (answers.Listed files) → BeginsBy plan (Ok (answers.Listed files)) came rest → Ends
-        by_files [] told goes = on_empty goes
-        by_files (file ∷ more) told goes =
+        no_names : (file : NamedRoot) (more : List NamedRoot) → first.answer ≡ Ok (answers.Listed (file ∷ more)) → ⊥
+        no_names file more told =
             let ran : CoreRun C state (first ∷ rest) old new = subst (λ (l : List Event). CoreRun C state l old new) steps_is run in
-            absurd (some_entry file more (none_listed first ran.0 (file ∷ more) ran.1.0 step_is told))
+            some_entry file more (none_listed first ran.0 (file ∷ more) ran.1.0 step_is told)
 
-        by_answer : (answer : Result Answer Refusal) → first.answer ≡ answer → BeginsBy plan answer came rest → Ends
+        by_files : (files : List NamedRoot) → first.answer ≡ Ok (answers.Listed files) → BeginsBy plan (Ok (answers.Listed files)) came rest → AllMay
+        by_files [] told goes = on_empty goes
+        by_files (file ∷ more) told goes = absurd (no_names file more told)
+
+        by_answer : (answer : Result Answer Refusal) → first.answer ≡ answer → BeginsBy plan answer came rest → AllMay
         by_answer (Err refusal) told (none, came_is) =
             finish (none_of plan.jobs)
             (are (none_of plan.jobs)
             (λ worker below. subst (OwnJobs plan.workers worker plan.jobs (none_of plan.jobs)) (sym (ap (asks_of (suc worker)) none)) (nothing_did plan.workers worker plan.jobs))
             (subst (AskedBeside false) (sym (ap (asks_of 0) none)) tt) (λ actor past. ap (asks_of actor) none))
-            (λ all job_ends. came_as came (Err refusal) came_is (subst MayAnswer told (first_answer all)))
         by_answer (Ok (answers.Listed files)) told goes = by_files files told goes
         by_answer (Ok answer) told goes = absurd goes
 
-  pub works_may_end : WorksMayEnd C state
-  works_may_end among plan came m old new distinct segments small empty works =
-      let s = works.steps_are in
-      by_answer among distinct plan small m old new empty segments came works.steps works.run works.each s.first s.rest s.steps_are s.actor_is s.step_is s.first.answer refl s.goes
+  module _ (among : ByteSet) (plan : Plan) (came : Outcome) (m : FileMachine) (old new : C) (distinct : HasNoCollisions (IsIn among))
+      (segments : HasAllSegments (streams_of plan) (IsIn among)) (small : IsSmall plan) (empty : IsEmptyAt (IsIn among) m (state old))
+      (works : WorksThrough state plan came old new) where
+    pub each_may : AllByRecursion (λ e. IfErr e.answer MayRefuse) works.steps
+    each_may =
+        let s = works.steps_are in
+        by_answer among distinct plan small m old new empty segments came works.steps works.run works.each s.first s.rest s.steps_are s.actor_is s.step_is
+        s.first.answer refl s.goes
+
+    pub none_named : (file : NamedRoot) (more : List NamedRoot) → works.steps_are.first.answer ≡ Ok (answers.Listed (file ∷ more)) → ⊥
+    none_named =
+        let s = works.steps_are in
+        no_names among distinct plan small m old new empty segments came works.steps works.run works.each s.first s.rest s.steps_are s.actor_is s.step_is

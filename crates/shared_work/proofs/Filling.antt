@@ -1,5 +1,5 @@
 -- A store is filled: what was asked for as the first actor, and as workers, one after the other.
-use Rattle.std.proofs.Common.{◌≡◌, ◌<◌, ◌≤◌, ℕ, suc, length, arith, List, [], ◌∷◌, ◌++◌, map, Option, Some, None, Result, Ok, Err, refl, sym, ap, ◌∙◌, subst, ◌==◌, if◌then◌else◌, eq-eqb, Bool, true, false}
+use Rattle.std.proofs.Common.{◌≡◌, ◌<◌, ◌≤◌, ℕ, length, arith, List, [], ◌∷◌, ◌++◌, map, Option, Some, None, Result, Ok, Err, refl, sym, ap, ◌∙◌, subst}
 use Rattle.std.specs.List.{AllByRecursion}
 use Rattle.actor_parts.specs.declared.actor.TheConstants.{ACTORS}
 use Rattle.actor_parts.specs.declared.answered.Answered.{Answered}
@@ -124,7 +124,8 @@ module _ {C : Type 0} (state : C → CoreState) where
       let row = subst (λ (r : Result Answer Refusal). Row asked.ListNames e.actor r e.buf old new) answer_is
       (subst (λ (s : StepValue). Row s e.actor e.answer e.buf old new) step_is steps.made.row) in
       row.1
-  parts_stay (Some stop) files e old new step_is answer_is steps = absurd (let both : ◌≡◌ {A = Result Answer Refusal} (Ok (answers.Listed files)) (Err (Stopped stop.at)) = sym answer_is ∙ steps.answer_is in cc)
+  parts_stay (Some stop) files e old new step_is answer_is steps =
+      absurd (let both : ◌≡◌ {A = Result Answer Refusal} (Ok (answers.Listed files)) (Err (Stopped stop.at)) = sym answer_is ∙ steps.answer_is in cc)
 
   pub listed_idle : (files : List NamedRoot) (all : List Ask) (old new : C) → Lists (Ok files) all → CoreRun C state (map (event_of 0) all) old new
       → (state new).parts ≡ (state old).parts

@@ -1,5 +1,5 @@
 -- What a whole load leaves of files: none of its own, where the store had names or could not tell them; else those of its jobs.
-use Rattle.std.proofs.Common.{◌≡◌, ◌⊎◌, inl, inr, ◌<◌, ◌≤◌, ◌%◌, ◌==◌, if◌then◌else◌, ℕ, zero, suc, Bool, true, false, List, [], ◌∷◌, ◌++◌, length, map, Option, Some, None, Result, Ok, Err, refl, sym, ap, ◌∙◌, subst, arith}
+use Rattle.std.proofs.Common.{◌≡◌, ◌⊎◌, inl, inr, ◌<◌, ◌≤◌, ◌%◌, ◌==◌, if◌then◌else◌, ℕ, zero, suc, Bool, true, false, List, [], ◌∷◌, length, map, Option, Some, None, Result, Ok, Err, refl, sym, ap, ◌∙◌, subst, arith}
 use Rattle.std.specs.FinMap as finite
 use Rattle.std.specs.List.{AllByRecursion, Contains}
 use Rattle.std.specs.Ordering.{nat_cmp}
@@ -13,16 +13,15 @@ use Rattle.actor_parts.specs.Asking.{Ask}
 use Rattle.actor_parts.specs.StepValue as steps
 use Rattle.actor_parts.specs.StepValue.{IsStep}
 use Rattle.load_stream.specs.Load.{LoadState}
-use Rattle.namespace.specs.Listing.{NamedRoot}
 use Rattle.refusals.specs.declared.refusal.Refusal.{Refusal}
 use Rattle.refusals.specs.declared.refusal.Refusal.TheVariants as refusals
 use Rattle.store_model.specs.Collisions.{ByteSet, HasNoCollisions, IsIn}
-use Rattle.store_model.specs.Files.{Files, Stored}
-use Rattle.store_core.specs.Runs.{CoreRun, FileEvent, events_of, stored_after}
+use Rattle.store_model.specs.Files.{Files}
+use Rattle.store_core.specs.Runs.{CoreRun, FileEvent, events_of}
 use Rattle.store_core.specs.State.{CoreState, Event, IsRunning}
 use Rattle.store_machine.specs.Asked as asked
 use Rattle.store_machine.specs.ByMap.{FileMachine}
-use Rattle.store_machine.specs.Legal.{ByState, Refuses, listing}
+use Rattle.store_machine.specs.Legal.{ByState, Refuses}
 use Rattle.store_machine.specs.Machine.{Found, RunState, Running, Stopped}
 use Rattle.store_machine.specs.Opening.{MayBeFound}
 use Rattle.store_machine.specs.Runs.{IsPassedFrom, Run}
@@ -39,7 +38,7 @@ use Rattle.ingest_workers.specs.Owing.{JobsAreOwed, own_files, stream_of}
 use Rattle.shared_work.specs.declared.whole.Summary.{Summary}
 use Rattle.shared_work.specs.Left.{IsFileWork, IsOfWork, WorksLeaveFiles}
 use Rattle.shared_work.specs.Streams.{HasAllSegments, IsOfStreams, LeavesStreams, WorkLeavesStreams}
-use Rattle.shared_work.specs.Whole.{BeginsBy, IsWorkDone, Outcome, Plan, WorksOnEmpty, WorksThrough, streams_of}
+use Rattle.shared_work.specs.Whole.{BeginsBy, IsWorkDone, Outcome, Plan, WorksOnEmpty, streams_of}
 use Rattle.shared_work.specs.Working.{AskedByWorker}
 use Rattle.shared_work.proofs.Concluding.{IsTold, finishes, is_told}
 use Rattle.shared_work.proofs.Due.{all_owed, all_steps, by_worker}

@@ -4,7 +4,6 @@ pub mod Clashing
 pub mod ClashingRuns
 pub mod Complete
 pub mod CompleteBeside
-pub mod CompleteJobs
 pub mod CompleteLeaves
 pub mod CompleteNames
 pub mod CompleteRows
@@ -23,6 +22,7 @@ pub mod Pinning
 pub mod PinningRuns
 pub mod RefusedJobs
 pub mod RootWork
+pub mod Shown
 pub mod Streaming
 pub mod StreamingSteps
 pub mod Sweeping

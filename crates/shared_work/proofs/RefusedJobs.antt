@@ -1,6 +1,6 @@
 -- What is so of each refusal of a step is so of each of a job, and of collections, if it is so of want of memory. May says what is so; and of files that
 -- fit it is so, too, that they are too long, where they are.
-use Rattle.std.proofs.Common.{◌≡◌, inl, inr, ◌≤◌, ◌<◌, ◌%◌, ◌==◌, if◌then◌else◌, ℕ, suc, map, length, ap, Bool, true, false, List, [], ◌∷◌, ◌++◌, Option, Some, None, Result, Ok, Err, refl, sym, subst, ◌∙◌, arith, eq-eqb, MatchBool}
+use Rattle.std.proofs.Common.{◌≡◌, inl, inr, ◌≤◌, ◌<◌, ◌%◌, ◌==◌, if◌then◌else◌, ℕ, suc, map, length, ap, Bool, true, false, List, [], ◌∷◌, ◌++◌, Option, Some, None, Result, Ok, Err, IfErr, refl, sym, subst, ◌∙◌, eq-eqb, MatchBool}
 use Rattle.std.specs.List.{AllByRecursion}
 use Rattle.std.proofs.lemmas.Nat.{mod_below}
 use Rattle.disk_format.specs.declared.numbers.TheConstants.{MOST_FILE}
@@ -19,24 +19,14 @@ use Rattle.ingest_workers.specs.declared.job.JobEnd.TheVariants as ends
 use Rattle.ingest_workers.specs.Giving.{ByCommit, BySession, ByTurn, GivenUp, IsRefused, Stops, TakesAll, Unbegun, Unclosed, Unended, Unopened, Unread, Unstored, Untaken}
 use Rattle.ingest_workers.specs.Ingesting.{ask_of, asks_of}
 use Rattle.ingest_workers.specs.Jobs.{IsJob, NoTemp, NoWork, NotDeleted, NotRead, OwnJobs, file_of, temp_name, work_name}
+use Rattle.shared_work.specs.Complete.{MayEnd}
 use Rattle.shared_work.specs.Whole.{BeginsBy, Concludes, Concluded, EndsBy, GoesBy, IsOneAsk, Outcome, Plan, Uncollected, Uncounted, Unlisted, WorkSteps, WorksOnEmpty, first_refused, refused_in, refused_of}
-use Rattle.shared_work.specs.Working.{Again, AskedByWorker, Broke, CollectsOften, CollectsOnce, Ended, Swept, Sweeps, Unbegun as CollectsNone}
-
-module _ (May : Refusal → Type 0) where
-  -- a step was done, or refused so
-  abbrev pub MayAnswer : Result Answer Refusal → Type 0
-  MayAnswer (Ok answer) = Unit {0}
-  MayAnswer (Err refusal) = May refusal
-
-  -- and a job was stored, or refused so
-  abbrev pub MayEnd : JobEnd → Type 0
-  MayEnd (ends.Stored root) = Unit {0}
-  MayEnd (ends.Refused refusal) = May refusal
+use Rattle.shared_work.specs.Working.{Again, AskedByWorker, Broke, CollectsBeside, CollectsOften, CollectsOnce, Ended, Swept, Unbegun as CollectsNone}
 
 module _ (May : Refusal → Type 0) (memory : May Memory) (Fits : ℕ → Type 0) (long : (n : ℕ) → Fits n → MOST_FILE < n → May TooLong) where
   -- a step was done, or refused so
   abbrev Answered : Result Answer Refusal → Type 0
-  Answered answer = MayAnswer May answer
+  Answered answer = IfErr answer May
 
   abbrev HasEnded : JobEnd → Type 0
   HasEnded end = MayEnd May end
@@ -143,12 +133,13 @@ module _ (May : Refusal → Type 0) (memory : May Memory) (Fits : ℕ → Type 0
       refused sweeps.last refusal sweeps.ends (right sweeps.steps (sweeps.last ∷ []) (subst AllMay sweeps.all_is each.1)).0
   once_may percent refusal all (CollectsNone a r is step none) each = subst May (let same : r ≡ refusal = cc in same) (refused a r none each.0)
 
-  pub often_may : (percent : ℕ) (result : Result (Unit {0}) Refusal) (refusal : Refusal) (all : List Ask) → result ≡ Err refusal → CollectsOften percent result all
+  pub often_may : (percent : ℕ) (result : Result (Unit {0}) Refusal) (refusal : Refusal) (most : ℕ) (all : List Ask) → result ≡ Err refusal
+      → CollectsOften percent result most all
       → AllMay all → May refusal
-  often_may percent result refusal all is (Ended ok) each = absurd (let both = sym is ∙ ok in cc)
-  often_may percent result refusal all is (Broke r rest broke once) each =
+  often_may percent result refusal most all is (Ended _ ok) each = absurd (let both = sym is ∙ ok in cc)
+  often_may percent result refusal most all is (Broke _ r rest broke once) each =
       subst May (let both = sym broke ∙ is in let same : r ≡ refusal = cc in same) (once_may percent r rest once each)
-  often_may percent result refusal all is (Again first more once often) each = often_may percent result refusal more is often (right first more each)
+  often_may percent result refusal most all is (Again less first more once often) each = often_may percent result refusal less more is often (right first more each)
 
   one_may : (step : _) (answer : Result Answer Refusal) (refusal : Refusal) (all : List Ask) → answer ≡ Err refusal → IsOneAsk step answer all → AllMay all → May refusal
   one_may step answer refusal all is (a, (all_is, step_is, answer_is)) each = refused a refusal (answer_is ∙ is) (subst AllMay all_is each).0
@@ -173,16 +164,16 @@ module _ (May : Refusal → Type 0) (memory : May Memory) (Fits : ℕ → Type 0
   stepped_may (e ∷ es) last each = let rest = stepped_may es last each.1 in ((each.0, rest.0), rest.1)
 
   refused_may : (ended : List JobEnd) (collected : Result (Unit {0}) Refusal) (refusal : Refusal) (asked : List Ask) (percent : ℕ) → AllByRecursion HasEnded ended
-      → CollectsOften percent collected asked → AllMay asked → refused_of (first_refused ended) collected ≡ Some refusal → May refusal
+      → CollectsBeside percent collected asked → AllMay asked → refused_of (first_refused ended) collected ≡ Some refusal → May refusal
   refused_may ended collected refusal asked percent ends often each is = by (first_refused ended) refl is
     where
       by : (first : Option Refusal) → first_refused ended ≡ first → refused_of first collected ≡ Some refusal → May refusal
       by (Some r) first_is told = subst May (let same : r ≡ refusal = cc in same) (first_may ended r ends first_is)
       by None first_is told = by_collected collected often told
         where
-          by_collected : (result : Result (Unit {0}) Refusal) → CollectsOften percent result asked → refused_of None result ≡ Some refusal → May refusal
+          by_collected : (result : Result (Unit {0}) Refusal) → CollectsBeside percent result asked → refused_of None result ≡ Some refusal → May refusal
           by_collected (Ok u) often told = absurd (cc)
-          by_collected (Err r) often told = often_may percent (Err r) refusal asked (let same : r ≡ refusal = cc in ap Err same) often each
+          by_collected (Err r) often told = often_may percent (Err r) refusal 1024 asked (let same : r ≡ refusal = cc in ap Err same) often each
 
   on_empty_may : (plan : Plan) (came : Outcome) (rest : List Event) (refusal : Refusal) → 1 ≤ plan.workers → AllByRecursion (λ j. Fits j.length) plan.jobs
       → WorksOnEmpty plan came rest → AllByRecursion (λ e. Answered e.answer) rest → came ≡ Err refusal → May refusal
@@ -213,8 +204,9 @@ module _ (May : Refusal → Type 0) (memory : May Memory) (Fits : ℕ → Type 0
 
   -- What it came to is refused by what a step was, or for want of memory, or since there are names.
   pub work_may : (plan : Plan) (came : Outcome) (steps : List Event) (refusal : Refusal) → 1 ≤ plan.workers → AllByRecursion (λ j. Fits j.length) plan.jobs
-      → ((files : ℕ) → May (NotEmpty files)) → WorkSteps plan came steps → AllByRecursion (λ e. Answered e.answer) steps → came ≡ Err refusal → May refusal
-  work_may plan came steps refusal some fits names w each is = by w.first.answer first_may_be w.goes
+      → (w : WorkSteps plan came steps) → ((file : NamedRoot) (more : List NamedRoot) → w.first.answer ≡ Ok (answers.Listed (file ∷ more)) → May (NotEmpty (suc (length more))))
+      → AllByRecursion (λ e. Answered e.answer) steps → came ≡ Err refusal → May refusal
+  work_may plan came steps refusal some fits w names each is = by w.first.answer refl first_may_be w.goes
     where
       all : AllByRecursion (λ e. Answered e.answer) (w.first ∷ w.rest)
       all = subst (AllByRecursion (λ e. Answered e.answer)) w.steps_are each
@@ -225,11 +217,11 @@ module _ (May : Refusal → Type 0) (memory : May Memory) (Fits : ℕ → Type 0
       same_refusal : (r : Refusal) → came ≡ Err r → r ≡ refusal
       same_refusal r told = let both : ◌≡◌ {A = Outcome} (Err r) (Err refusal) = sym told ∙ is in cc
 
-      by_names : (files : List NamedRoot) → GoesBy plan files came w.rest → May refusal
-      by_names [] goes = on_empty_may plan came w.rest refusal some fits goes all.1 is
-      by_names (file ∷ more) goes = subst May (same_refusal (NotEmpty (suc (length more))) goes.1) (names (suc (length more)))
+      by_names : (files : List NamedRoot) → w.first.answer ≡ Ok (answers.Listed files) → GoesBy plan files came w.rest → May refusal
+      by_names [] told goes = on_empty_may plan came w.rest refusal some fits goes all.1 is
+      by_names (file ∷ more) told goes = subst May (same_refusal (NotEmpty (suc (length more))) goes.1) (names file more told)
 
-      by : (answer : Result Answer Refusal) → Answered answer → BeginsBy plan answer came w.rest → May refusal
-      by (Ok (answers.Listed files)) may goes = by_names files goes
-      by (Err r) may goes = subst May (same_refusal r goes.1) may
-      by answer may goes = absurd goes
+      by : (answer : Result Answer Refusal) → w.first.answer ≡ answer → Answered answer → BeginsBy plan answer came w.rest → May refusal
+      by (Ok (answers.Listed files)) told may goes = by_names files told goes
+      by (Err r) told may goes = subst May (same_refusal r goes.1) may
+      by answer told may goes = absurd goes

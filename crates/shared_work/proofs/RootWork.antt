@@ -1,5 +1,5 @@
 -- A whole load on any disk, as a run of the machine of roots.
-use Rattle.std.proofs.Common.{◌≡◌, ◌≤◌, ◌<◌, ℕ, true, false, List, [], ◌∷◌, ◌++◌, map, Option, Some, None, Result, Ok, Err, refl, sym, ap, ◌∙◌, subst}
+use Rattle.std.proofs.Common.{◌≡◌, ◌<◌, ℕ, false, List, [], ◌∷◌, ◌++◌, map, Option, Some, None, Result, Ok, Err, IfErr, refl, sym, ap, ◌∙◌, subst}
 use Rattle.std.proofs.lemmas.List.{append_assoc, map-append}
 use Rattle.std.specs.FinMap as finite
 use Rattle.std.specs.List.{AllByRecursion}
@@ -13,8 +13,8 @@ use Rattle.refusals.specs.declared.refusal.Refusal.{Refusal}
 use Rattle.refusals.specs.declared.refusal.Refusal.TheVariants as refusals
 use Rattle.store_core.proofs.CoreRuns.{run_later}
 use Rattle.store_core.specs.declared.stop.Stop.{Stop}
-use Rattle.store_core.specs.Runs.{CoreRun, RunsOn}
-use Rattle.store_core.specs.State.{CoreState, Event, IsRunning}
+use Rattle.store_core.specs.Runs.{RunsOn}
+use Rattle.store_core.specs.State.{CoreState, Event}
 use Rattle.store_machine.specs.Asked as asked
 use Rattle.store_machine.specs.Done.{Done}
 use Rattle.store_machine.specs.Done as done
@@ -23,15 +23,15 @@ use Rattle.store_machine.specs.Machine.{Machine, RunState, Running, Stepped, Sto
 use Rattle.store_machine.specs.Remembering.{RootMachine}
 use Rattle.store_machine.specs.Runs.{Run}
 use Rattle.store_machine.specs.Values.{Values, of_roots}
-use Rattle.core_machine.specs.Refines.{CoreRefines, IsMachine}
+use Rattle.core_machine.specs.Refines.{CoreRefines}
 use Rattle.core_machine.specs.Runs.{RunsRefine, stepped}
 use Rattle.shared_store.specs.Telling.{event_of}
 use Rattle.ingest_workers.specs.declared.job.Job.{Job}
 use Rattle.shared_work.specs.declared.whole.Summary.{Summary}
 use Rattle.shared_work.specs.Left.{WorksAreRuns}
-use Rattle.shared_work.specs.Whole.{BeginsBy, Concludes, Concluded, EndsBy, GoesBy, Outcome, Plan, Uncollected, Uncounted, Unlisted, WorkSteps, WorksOnEmpty, WorksThrough, refused_in}
+use Rattle.shared_work.specs.Whole.{BeginsBy, Concludes, Concluded, EndsBy, GoesBy, Outcome, Plan, Uncollected, Uncounted, Unlisted, WorkSteps, WorksOnEmpty, refused_in}
 use Rattle.shared_work.proofs.Answering.{answers_as_it_runs}
-use Rattle.shared_work.proofs.RefusedJobs.{MayAnswer, work_may}
+use Rattle.shared_work.proofs.RefusedJobs.{work_may}
 use Rattle.shared_work.proofs.Told.{StoppedBy, counts, stop_answered, was_stopped}
 
 -- ---- the last two steps of a load that is summed up
@@ -172,7 +172,7 @@ module _ {C : Type 0} (state : C → CoreState) (runs_on : RunsOn C state) (refi
 
   -- a step was answered, or refused so
   abbrev AnswersSo : C → Result Answer Refusal → Type 0
-  AnswersSo new answer = MayAnswer (MayStop new) answer
+  AnswersSo new answer = IfErr answer (MayStop new)
 
   tells : (new : C) (answer : Result Answer Refusal) → StoppedBy state new answer → AnswersSo new answer
   tells new (Ok answer) told = tt
@@ -199,8 +199,7 @@ module _ {C : Type 0} (state : C → CoreState) (runs_on : RunsOn C state) (refi
         later = run_later C state works.steps old new works.run;
         stopped = λ at is.
             let none : MayStop new refusals.Memory = λ k same. absurd (cc) in
-            let names : (files : ℕ) → MayStop new (refusals.NotEmpty files) = λ files k same. absurd (cc) in
-            let stop = work_may (MayStop new) none (λ n. Unit {0}) (λ n ok above. none_long n ok above new) plan came works.steps (refusals.Stopped at) some (all_fit plan.jobs) names
-            works.steps_are told is at refl in
+            let stop = work_may (MayStop new) none (λ n. Unit {0}) (λ n ok above. none_long n ok above new) plan came works.steps (refusals.Stopped at) some (all_fit plan.jobs)
+            works.steps_are (λ file more listed k same. absurd (cc)) told is at refl in
             (stop.0, (stop.1, stop_answered state works.steps old new stop.0 works.run runs stop.1));
       }

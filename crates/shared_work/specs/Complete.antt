@@ -1,6 +1,6 @@
 -- What workers ask for is done: by what alone a step of theirs, or of a collection beside them, is refused, where the disk tells its
 -- content (docs/MODEL.md, 'Workers').
-use Rattle.std.specs.Prelude.{◌≡◌, ◌≤◌, ◌<◌, ◌^◌, ℕ, true, false, Bool, List, [], ◌∷◌, ◌++◌, length, None, Result, Ok, Err}
+use Rattle.std.specs.Prelude.{◌≡◌, ◌≤◌, ◌<◌, ◌^◌, ℕ, true, false, Bool, List, [], ◌∷◌, ◌++◌, length, None, Result, Ok, Err, IfErr}
 use Rattle.std.specs.FinMap as finite
 use Rattle.std.specs.List.{AllByRecursion}
 use Rattle.actor_parts.specs.declared.actor.TheConstants.{ACTORS}
@@ -24,7 +24,7 @@ use Rattle.ingest_workers.specs.declared.job.JobEnd.TheVariants as ends
 use Rattle.ingest_workers.specs.Ingesting.{asks_of}
 use Rattle.ingest_workers.specs.Named.{AreDoneBy, own_by}
 use Rattle.shared_work.specs.Streams.{HasAllSegments}
-use Rattle.shared_work.specs.Working.{CollectsOften}
+use Rattle.shared_work.specs.Working.{CollectsBeside}
 
 -- ---- what is left
 
@@ -43,15 +43,10 @@ MayRefuse (Clash key at) = Unit {0}
 MayRefuse (Unpinned key) = Unit {0}
 MayRefuse refusal = ⊥
 
--- a step was done, or refused so
-abbrev pub MayAnswer : Result Answer Refusal → Type 0
-MayAnswer (Ok answer) = Unit {0}
-MayAnswer (Err refusal) = MayRefuse refusal
-
--- and a job was stored, or refused so
-abbrev pub MayEnd : JobEnd → Type 0
-MayEnd (ends.Stored root) = Unit {0}
-MayEnd (ends.Refused refusal) = MayRefuse refusal
+-- a job was stored, or refused so
+abbrev pub MayEnd : (Refusal → Type 0) → JobEnd → Type 0
+MayEnd May (ends.Stored root) = Unit {0}
+MayEnd May (ends.Refused refusal) = May refusal
 
 -- ---- what is asked for beside the workers
 
@@ -106,10 +101,10 @@ WhatWorkersAskIsDone C state = (among : ByteSet) (count : ℕ) (jobs : List Job)
     (old new : C)
     → HasNoCollisions (IsIn among) → HasAllSegments (own_by count jobs) (IsIn among) → IsEmptyAt (IsIn among) m (state old)
     → CoreRun C state es old new → AreWorkersSteps count jobs ended es
-    → AllByRecursion (λ e. MayAnswer e.answer) es × AllByRecursion MayEnd ended
+    → AllByRecursion (λ e. IfErr e.answer MayRefuse) es × AllByRecursion (MayEnd MayRefuse) ended
 
 -- Collections that are made one after the other, up to the first refusal, are such as may be asked for beside workers; and what comes after
 -- them may be as if none had been made, if it comes only where none was refused.
 abbrev pub CollectionsAreBeside : Type 0
-CollectionsAreBeside = (percent : ℕ) (result : Result (Unit {0}) Refusal) (all more : List Ask) → CollectsOften percent result all
+CollectionsAreBeside = (percent : ℕ) (result : Result (Unit {0}) Refusal) (all more : List Ask) → CollectsBeside percent result all
     → (result ≡ Ok tt → AskedBeside false more) → ((refusal : Refusal) → result ≡ Err refusal → more ≡ []) → AskedBeside false (all ++ more)

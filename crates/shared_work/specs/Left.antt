@@ -37,7 +37,8 @@ module _ {C : Type 0} (state : C → CoreState) where
         → (stop : Stop) × (((state new).stop ≡ Some stop) × IsToldOf steps (Stopped at) stop.refusal)
 
   abbrev pub WorksAreRuns : Type 0
-  WorksAreRuns = (plan : Plan) (came : Outcome) (m : RootMachine) (old new : C) → 1 ≤ plan.workers → IsRunning (state old) → (state old).stop ≡ None
+  WorksAreRuns = (plan : Plan) (came : Outcome) (m : RootMachine) (old new : C) → 1 ≤ plan.workers → IsRunning (state old)
+      → (state old).stop ≡ None
       → IsMachine false m (state old) → (works : WorksThrough state plan came old new) → IsRootWork m came works.steps old new
 
   -- ---- where the disk tells its content
@@ -49,7 +50,8 @@ module _ {C : Type 0} (state : C → CoreState) where
   -- The steps are a run of the machine of files. At the end what may be found are files of jobs, if no name had one before; where a summary
   -- is told, just these, each under its second name. At any moment, also inside a write, a crash leaves an image that can be opened as such
   -- files, or as those of before.
-  pub record IsFileWork (S : List ℕ → Type 0) (plan : Plan) (m : FileMachine) (came : Outcome) (steps : List Event) (old new : C) : Type 0 where
+  pub record IsFileWork (S : List ℕ → Type 0) (plan : Plan) (m : FileMachine) (came : Outcome) (steps : List Event) (old new : C)
+      : Type 0 where
     pub events : List FileEvent
     pub events_are : events_of events ≡ steps
     pub left : FileMachine

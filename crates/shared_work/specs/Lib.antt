@@ -1,7 +1,6 @@
 pub mod Clashing
 pub mod Complete
 pub mod Completing
-pub mod Ending
 pub mod Freed
 pub mod Left
 pub mod Pinning

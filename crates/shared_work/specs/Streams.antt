@@ -38,7 +38,8 @@ pub record LeavesStreams {C : Type 0} (state : C → CoreState) (S : List ℕ �
 
 -- each segment of the files is among these
 abbrev pub HasAllSegments : (ℕ → List LoadState) → (List ℕ → Type 0) → Type 0
-HasAllSegments own S = (actor : ℕ) (file : LoadState) (bytes : List ℕ) → Contains (own actor) file → IsSegmentOf (stream_of file) bytes → S bytes
+HasAllSegments own S = (actor : ℕ) (file : LoadState) (bytes : List ℕ) → Contains (own actor) file → IsSegmentOf (stream_of file) bytes
+    → S bytes
 
 -- So it is of steps by any actors that are due by what each asked for before, over data without collisions, of a core that runs and is at
 -- files of which each is one of the actors'.

@@ -30,7 +30,7 @@ use Rattle.ingest_workers.specs.Owing.{stream_of}
 use Rattle.shared_store.specs.Telling.{event_of}
 use Rattle.shared_work.specs.declared.whole.Sum.{Sum}
 use Rattle.shared_work.specs.declared.whole.Summary.{Summary}
-use Rattle.shared_work.specs.Working.{AskedByWorker, CollectsOften, CollectsOnce}
+use Rattle.shared_work.specs.Working.{AskedByWorker, CollectsBeside, CollectsOnce}
 
 -- what is to be done: these jobs, by so many workers, and collections with this percentage
 pub record Plan : Type 0 where
@@ -98,11 +98,13 @@ CountsAll (Err refusal) all = IsOneAsk asked.Unique (Err refusal) all
 
 -- The last steps of the first actor: one more collection, and then the summary.
 pub data Concludes (percent : ℕ) (came : Outcome) : List Ask → Type 0 where
-  Uncollected : (refusal : Refusal) (all : List Ask) → came ≡ Err refusal → CollectsOnce percent (Err refusal) all → Concludes percent came all
+  Uncollected : (refusal : Refusal) (all : List Ask) → came ≡ Err refusal → CollectsOnce percent (Err refusal) all
+      → Concludes percent came all
   Unlisted : (refusal : Refusal) (all list : List Ask) → came ≡ Err refusal → CollectsOnce percent (Ok tt) all → Lists (Err refusal) list
       → Concludes percent came (all ++ list)
   Uncounted : (refusal : Refusal) (all list count : List Ask) (files : List NamedRoot) → came ≡ Err refusal
-      → CollectsOnce percent (Ok tt) all → Lists (Ok files) list → CountsAll (Err refusal) count → Concludes percent came (all ++ (list ++ count))
+      → CollectsOnce percent (Ok tt) all → Lists (Ok files) list → CountsAll (Err refusal) count
+      → Concludes percent came (all ++ (list ++ count))
   Concluded : (summary : Summary) (all list count : List Ask) → came ≡ Ok summary → CollectsOnce percent (Ok tt) all
       → Lists (Ok summary.files) list → CountsAll (Ok (record { segments = summary.segments; bytes = summary.bytes })) count
       → Concludes percent came (all ++ (list ++ count))
@@ -112,8 +114,8 @@ abbrev pub EndsBy : ℕ → Option Refusal → Outcome → List Ask → Type 0
 EndsBy percent (Some refusal) came last = (last ≡ []) × (came ≡ Err refusal)
 EndsBy percent None came last = Concludes percent came last
 
--- All workers do their jobs, each those whose number leaves its own when divided by how many there are, as the actors from 1 on; the actor 0
--- collects beside them, and, once all have ended, does the rest.
+-- All workers do their jobs, each those whose number leaves its own when divided by how many there are, as the actors from 1 on; the actor
+-- 0 collects beside them, and, once all have ended, does the rest.
 pub record WorksOnEmpty (plan : Plan) (came : Outcome) (steps : List Event) : Type 0 where
   pub ended : Option (List JobEnd)
   pub collected : Result (Unit {0}) Refusal
@@ -121,7 +123,7 @@ pub record WorksOnEmpty (plan : Plan) (came : Outcome) (steps : List Event) : Ty
   pub last : List Ask
   pub steps_are : steps ≡ beside ++ map (event_of 0) last
   pub workers : (worker : ℕ) → worker < plan.workers → AskedByWorker plan.workers worker plan.jobs ended (asks_of (suc worker) beside)
-  pub collector : CollectsOften plan.percent collected (asks_of 0 beside)
+  pub collector : CollectsBeside plan.percent collected (asks_of 0 beside)
   pub others : (actor : ℕ) → plan.workers < actor → asks_of actor beside ≡ []
   pub ends : EndsBy plan.percent (refused_in ended collected) came last
 

@@ -44,15 +44,22 @@ pub record Sweeps (result : Result (Unit {0}) Refusal) (all : List Ask) : Type 0
 
 -- One began, and was made on; or it was refused to begin.
 pub data CollectsOnce (percent : ℕ) (result : Result (Unit {0}) Refusal) : List Ask → Type 0 where
-  Swept : (a : Ask) (steps : List Ask) → a.step ≡ asked.GcStart percent → IsDone a → Sweeps result steps → CollectsOnce percent result (a ∷ steps)
+  Swept : (a : Ask) (steps : List Ask) → a.step ≡ asked.GcStart percent → IsDone a → Sweeps result steps
+      → CollectsOnce percent result (a ∷ steps)
   Unbegun : (a : Ask) (refusal : Refusal) → result ≡ Err refusal → a.step ≡ asked.GcStart percent → IsRefused refusal a
       → CollectsOnce percent result (a ∷ [])
 
--- So it was some times, one after the other, up to the first refusal.
-pub data CollectsOften (percent : ℕ) (result : Result (Unit {0}) Refusal) : List Ask → Type 0 where
-  Ended : result ≡ Ok tt → CollectsOften percent result []
-  Broke : (refusal : Refusal) (all : List Ask) → result ≡ Err refusal → CollectsOnce percent (Err refusal) all → CollectsOften percent result all
-  Again : (all more : List Ask) → CollectsOnce percent (Ok tt) all → CollectsOften percent result more → CollectsOften percent result (all ++ more)
+-- So it was at most so many times, one after the other, up to the first refusal.
+pub data CollectsOften (percent : ℕ) (result : Result (Unit {0}) Refusal) : (most : ℕ) → List Ask → Type 0 where
+  Ended : (most : ℕ) → result ≡ Ok tt → CollectsOften percent result most []
+  Broke : (most : ℕ) (refusal : Refusal) (all : List Ask) → result ≡ Err refusal → CollectsOnce percent (Err refusal) all
+      → CollectsOften percent result (suc most) all
+  Again : (most : ℕ) (all more : List Ask) → CollectsOnce percent (Ok tt) all → CollectsOften percent result most more
+      → CollectsOften percent result (suc most) (all ++ more)
+
+-- beside workers
+abbrev pub CollectsBeside : ℕ → Result (Unit {0}) Refusal → List Ask → Type 0
+CollectsBeside percent result all = CollectsOften percent result 1024 all
 
 -- ---- workers beside it
 
@@ -69,7 +76,7 @@ pub record WorksBeside {C : Type 0} (state : C → CoreState) (count percent : �
   pub run : CoreRun C state steps old new
   pub each : AllByRecursion (λ e. IsStep e.step × (e.actor < ACTORS)) steps
   pub workers : (worker : ℕ) → worker < count → AskedByWorker count worker jobs ended (asks_of (suc worker) steps)
-  pub collector : CollectsOften percent collected (asks_of 0 steps)
+  pub collector : CollectsBeside percent collected (asks_of 0 steps)
   pub others : (actor : ℕ) → count < actor → asks_of actor steps ≡ []
 
 -- ---- what callers leave behind, and their passes
@@ -86,7 +93,7 @@ up_to (suc n) = up_to n ++ suc n ∷ []
 
 -- what is asked for as each actor: the collections as the first, and the jobs as the others
 abbrev pub AskedAs : (count percent : ℕ) → List Job → Option (List JobEnd) → Result (Unit {0}) Refusal → ℕ → List Ask → Type 0
-AskedAs count percent jobs ended collected zero all = CollectsOften percent collected all
+AskedAs count percent jobs ended collected zero all = CollectsBeside percent collected all
 AskedAs count percent jobs ended collected (suc worker) all = AskedByWorker count worker jobs ended all
 
 module _ {C : Type 0} (state : C → CoreState) where

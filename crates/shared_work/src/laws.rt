@@ -2,7 +2,6 @@
 ghost use Rattle.shared_work.specs.Clashing.{NoneClashes};
 ghost use Rattle.shared_work.specs.Complete.{CollectionsAreBeside, WhatWorkersAskIsDone};
 ghost use Rattle.shared_work.specs.Completing.{WorksAreComplete};
-ghost use Rattle.shared_work.specs.Ending.{WorksMayEnd};
 ghost use Rattle.shared_work.specs.Freed.{FirstIsFresh, SplitIsFresh, SplitStaysFresh, StoresStay, WorkersComeFree};
 ghost use Rattle.shared_work.specs.Left.{WorksAreRuns, WorksLeaveFiles};
 ghost use Rattle.shared_work.specs.Pinning.{NoneLacksPin};
@@ -76,14 +75,14 @@ pub fn nothing_clashes<C: HasState>()
     what_is_owed_is_right::<C>();
 }
 
-/// Of a whole load, over data without collisions that has all segments of the jobs' files, where no two jobs have one number, each number is
-/// below 2^64, and there is a worker: of a core that runs, and is a machine of files that runs, so that the disk tells its content. All steps
-/// are a run of the machine of files, and the core is the machine at its end. If no name had a file before, each that may have one then is
-/// one of the two names of a job, and has all bytes of the job's file, also where jobs were refused or a write failed; and where a summary is
-/// told, the core runs, each job's second name has its file, no other name has one, and the summary has just these names, with the roots of
-/// their files, and how many segments and nodes their trees have, each counted once, of how many bytes. At any moment, also inside a write, a
-/// crash leaves an image that can be opened as such files, if there were none before, or as those that were there, or one that it might have
-/// left before. The function does nothing.
+/// Of a whole load, over data without collisions that has all segments of the jobs' files, where no two jobs have one number, each number
+/// is below 2^64, and there is a worker: of a core that runs, and is a machine of files that runs, so that the disk tells its content. All
+/// steps are a run of the machine of files, and the core is the machine at its end. If no name had a file before, each that may have one
+/// then is one of the two names of a job, and has all bytes of the job's file, also where jobs were refused or a write failed; and where a
+/// summary is told, the core runs, each job's second name has its file, no other name has one, and the summary has just these names, with
+/// the roots of their files, and how many segments and nodes their trees have, each counted once, of how many bytes. At any moment, also
+/// inside a write, a crash leaves an image that can be opened as such files, if there were none before, or as those that were there, or one
+/// that it might have left before. The function does nothing.
 pub fn a_work_leaves_its_files<C: HasState>()
     ensures { WorksLeaveFiles C.state }
 {
@@ -94,24 +93,14 @@ pub fn a_work_leaves_its_files<C: HasState>()
 }
 
 /// What a whole load makes, on any disk: its steps are a run of the machine of roots, and what names are told stand at its end; the disk is
-/// the same, later, and its count of faults rises by the steps that blame a call of it, and by no others. Where the last that is told is that
-/// the store is stopped, a step was answered the refusal that stopped it. It begins with a core that runs and is the machine of some roots,
-/// and there is a worker. The function does nothing.
+/// the same, later, and its count of faults rises by the steps that blame a call of it, and by no others. Where the last that is told is
+/// that the store is stopped, a step was answered the refusal that stopped it. It begins with a core that runs and is the machine of some
+/// roots, and there is a worker. The function does nothing.
 pub fn a_work_is_a_run<C: HasState>()
     ensures { WorksAreRuns C.state }
 {
     a_core_runs_on::<C>();
     a_core_is_the_machine::<C>();
-}
-
-/// A whole load of small jobs, of a core that runs and is at no files, over data without collisions that has all segments of the jobs'
-/// files, ends with a summary; or for want of memory, of a slot or of a number, by a call of the disk that failed, or since a node clashes
-/// or lacks a pin. The function does nothing.
-pub fn a_work_may_end_so<C: HasState>()
-    ensures { WorksMayEnd C C.state }
-{
-    what_workers_ask_is_done::<C>();
-    a_core_is_the_machine_of_files::<C>();
 }
 
 /// Over data without collisions, of a core that runs and is at files: where what each actor asks for is due so, and no two different nodes
@@ -125,12 +114,17 @@ pub fn nothing_lacks_a_pin<C: HasState>()
     what_is_owed_is_right::<C>();
 }
 
-/// A whole load, of a core that runs and is at files, over data without collisions that has all segments of the jobs' files: where no two
-/// different nodes, of the trees of these files or held on the way, have one digest, it does not end since a node clashes or lacks a pin.
-/// The function does nothing.
+/// A whole load of small jobs, of a core that runs and is at no files, over data without collisions that has all segments of the jobs'
+/// files, ends with a summary; or for want of memory; of a slot or of a number, as an image shows that a crash might have left meanwhile;
+/// by a call of the disk that failed; or since a node clashes or lacks a pin, but for these two only where two different nodes have one
+/// digest, of the trees of these files or held on the way. So it is of each step. The function does nothing.
 pub fn a_work_is_complete<C: HasState>()
     ensures { WorksAreComplete C C.state }
 {
+    a_core_runs_on::<C>();
+    a_core_is_the_machine_of_files::<C>();
+    what_is_owed_is_right::<C>();
+    what_workers_ask_is_done::<C>();
     nothing_clashes::<C>();
     nothing_lacks_a_pin::<C>();
     what_jobs_ask_for_is_owed();

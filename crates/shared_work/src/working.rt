@@ -8,7 +8,7 @@ ghost use Rattle.shared_store.specs.Made.{MadeBy};
 ghost use Rattle.shared_store.specs.Passes.{IsBusy, actor_of};
 ghost use Rattle.ingest_workers.specs.Jobs.{AskedFrom};
 ghost use Rattle.shared_work.specs.Freed.{IsOpening};
-ghost use Rattle.shared_work.specs.Working.{AreWorked, CollectsOften, HasWorked, IsNew, JoinsAll, WorksBeside};
+ghost use Rattle.shared_work.specs.Working.{AreWorked, CollectsBeside, HasWorked, IsNew, JoinsAll, WorksBeside};
 
 use crate::collecting::collect_often;
 use crate::laws::a_workers_pass_comes_free;
@@ -168,7 +168,7 @@ struct Done<S: StoreCalls> {
     ends: Option<Vec<JobEnd>>,
 }
 
-// Does all jobs, and then none are left, also where there was no memory to begin any.
+// Does all jobs; then none are left, also where there was no memory to begin any, and it wakes who waits for that.
 fn do_jobs<S: StoreCalls + Send + Drop, G: Gate + Sync, R: Threads + Wait + Sync>(
     rt: &R,
     alloc: Global,
@@ -194,6 +194,7 @@ fn do_jobs<S: StoreCalls + Send + Drop, G: Gate + Sync, R: Threads + Wait + Sync
         },
     };
     left.store(0, Ordering::SeqCst);
+    left.wake_one();
     done
 }
 
@@ -210,7 +211,7 @@ fn collect<S: StoreCalls, R: Wait>(
     left: &AtomicU64,
     buf: SegBuf,
 ) -> Collected<S>
-    ensures { AskedFrom S.asks caller (CollectsOften percent result.result) result.caller }
+    ensures { AskedFrom S.asks caller (CollectsBeside percent result.result) result.caller }
 {
     let mut caller = caller;
     let mut buf = buf;
@@ -218,7 +219,8 @@ fn collect<S: StoreCalls, R: Wait>(
     Collected { caller, result }
 }
 
-// The callers do the jobs, and the collector collects as long as any are left.
+// The callers do the jobs, and the collector collects as long as any are left: in a thread of its own or, where none can be had, once none
+// are.
 fn do_beside<S: StoreCalls + Send + Drop, G: Gate + Sync, R: Threads + Wait + Sync>(
     rt: &R,
     alloc: Global,
@@ -226,22 +228,22 @@ fn do_beside<S: StoreCalls + Send + Drop, G: Gate + Sync, R: Threads + Wait + Sy
     collector: S,
     buf: SegBuf,
     task: &Task<'_, G>,
-) -> (Done<S>, Collected<S>)
+) -> (Collected<S>, Done<S>)
     requires some { 0 < length callers.items }
-    ensures jobs { AreWorked S.asks task.now.jobs.now (option_map (λ v. v.items) result.0.ends) callers.items result.0.callers.items }
-    ensures collected { AskedFrom S.asks collector (CollectsOften task.now.percent result.1.result) result.1.caller }
+    ensures collected { AskedFrom S.asks collector (CollectsBeside task.now.percent result.0.result) result.0.caller }
+    ensures jobs { AreWorked S.asks task.now.jobs.now (option_map (λ v. v.items) result.1.ends) callers.items result.1.callers.items }
 {
     let left = AtomicU64::new(task.jobs.len() as u64);
     let left = &left;
     join(
         rt,
+        move || -> Collected<S>
+            ensures { AskedFrom S.asks collector (CollectsBeside task.entry.now.percent result.result) result.caller }
+        { collect(rt, collector, task.percent, left, buf) },
         move || -> Done<S>
             requires { 0 < length callers.items }
             ensures { AreWorked S.asks task.entry.now.jobs.now (option_map (λ v. v.items) result.ends) callers.items result.callers.items }
         { do_jobs(rt, alloc, callers, task, left) },
-        move || -> Collected<S>
-            ensures { AskedFrom S.asks collector (CollectsOften task.entry.now.percent result.result) result.caller }
-        { collect(rt, collector, task.percent, left, buf) },
     )
 }
 
@@ -300,7 +302,7 @@ fn work_over<'a, C: HasState + Drop + Send, G: Gate + Sync, R: Threads + Wait + 
     let mut pass = pass;
     split_all(rt, store, core, &mut pass, task.count, &mut callers);
     let collector = Caller::new(store, pass, rt);
-    let (done, collected) = do_beside(rt, alloc, callers, collector, buf, task);
+    let (collected, done) = do_beside(rt, alloc, callers, collector, buf, task);
     let Done { callers, ends } = done;
     let Collected {
         caller: collector,
@@ -331,8 +333,8 @@ fn undone<C>(core: C) -> Worked<C>
 /// Has so many workers do jobs by one store over a core that runs and is idle, each by a thread of its own where one can be had: the worker
 /// w, from 0 on, does those whose number leaves w when divided by how many workers there are, as the actor w + 1. As the actor 0 one more
 /// caller makes whole collections with this percentage while jobs are left, 1,024 at most and up to the first that is refused. When all
-/// have returned the core comes back. Where there is no memory for the jobs none begins; else a job or a collection that is refused ends there,
-/// and the others go on. It waits for turns and reads files to their ends, so it promises what it promises if it returns.
+/// have returned the core comes back. Where there is no memory for the jobs none begins; else a job or a collection that is refused ends
+/// there, and the others go on. It waits for turns and reads files to their ends, so it promises what it promises if it returns.
 pub fn work_together<C: HasState + Drop + Send, G: Gate + Sync, R: Threads + Wait + Sync>(
     rt: &R,
     alloc: Global,

@@ -1,8 +1,8 @@
-use Rattle.backup_engine.proofs.Prelude.{rules, ◌≡◌, ◌≤◌, ◌∙◌, List, Option, Some, None, Result, Ok, Err, sym, ap, subst, MutBor, IsLater, Memory, Refused, ending_in}
+use Rattle.backup_engine.proofs.Prelude.{rules, ◌≤◌, ◌∙◌, Option, Some, None, Result, sym, subst, MutBor, IsLater, Memory, Refused, ending_in}
 use Rattle.std.specs.Prelude.{option_map}
 use Rattle.reply_text.specs.declared.ending.Ending.{Ending}
 use Rattle.ingest_workers.specs.Named.{HaveNumbers}
-use Rattle.shared_work.specs.Ending.{IsSmall}
+use Rattle.shared_work.specs.Completing.{IsSmall}
 use Rattle.shared_work.specs.Whole.{Outcome, Plan}
 use Rattle.backup_engine.specs.LineValue.{load_value}
 use Rattle.backup_engine.specs.Seen.{devices}
@@ -102,7 +102,7 @@ returns g c =
             Some (ran _ view _ _ first _ w core core_now opens is.running closed.disk closed.moment plan came some numbers works),
             work_opened _ view _ _ first _ w core core_now opens is.running closed.disk closed.moment plan came some numbers works is.opened (ending_in result) source sink sink_now
                 (works_back _ view _ _ first _ w core core_now opens is.running closed.disk closed.moment plan came some numbers works c.an_opening_finds_its_files-2.ensures.opened
-                c.a_work_leaves_its_files.ensures c.a_work_may_end_so.ensures c.a_work_is_complete.ensures few is.opened)
+                c.a_work_leaves_its_files.ensures c.a_work_is_complete.ensures few is.opened)
                 (works_opened _ view _ _ first _ w core core_now opens is.running closed.disk closed.moment plan came some numbers works c.an_opening_is_the_machines.ensures.opened
                 c.a_work_is_a_run.ensures (ending_in result) source sink sink_now prints),
           );

@@ -1,5 +1,4 @@
-use Rattle.std.proofs.Common.{Result, List, [], ◌∷◌, ◌++◌, Ok, Err, refl}
-use Rattle.actor_parts.specs.Asking.{Ask}
+use Rattle.std.proofs.Common.{Result, ◌++◌, refl}
 use Rattle.refusals.specs.declared.refusal.Refusal.{Refusal}
 use Rattle.ingest_workers.proofs.Feeding.{asks_append}
 use Rattle.session_turns.proofs.Results.{by_error}

@@ -1,4 +1,4 @@
-use Rattle.std.proofs.Common.{Result, List, [], ◌∷◌, Ok, Err, refl, ap}
+use Rattle.std.proofs.Common.{Result, [], ◌∷◌, Ok, Err, refl, ap}
 use Rattle.actor_parts.specs.Asking.{Ask}
 use Rattle.actor_parts.specs.StepValue as asked
 use Rattle.refusals.specs.declared.refusal.Refusal.{Refusal}

@@ -1,13 +1,10 @@
-use Rattle.std.proofs.Common.{◌≡◌, ◌<◌, ℕ, List, [], ◌∷◌, ◌++◌, map, Option, Some, None, Result, Ok, Err, refl, sym, ap, ◌∙◌, subst, arith, option_map}
+use Rattle.std.proofs.Common.{List, [], ◌++◌, map, Option, Err, refl, sym, ◌∙◌, subst, arith}
 use Rattle.std.proofs.lemmas.List.{append-nil}
-use Rattle.actor_parts.specs.declared.actor.TheConstants.{ACTORS}
-use Rattle.actor_parts.specs.Asking.{Ask}
 use Rattle.refusals.specs.declared.refusal.Refusal.{Refusal}
 use Rattle.store_core.specs.Runs.{CoreRun}
 use Rattle.store_core.specs.State.{Event}
 use Rattle.shared_store.specs.Telling.{event_of}
-use Rattle.ingest_workers.specs.declared.job.JobEnd.{JobEnd}
-use Rattle.shared_work.specs.Whole.{EndsBy, refused_in}
+use Rattle.shared_work.specs.Whole.{EndsBy}
 use Rattle.shared_work.proofs.Filling.{conclude_steps, events_append, events_by, run_append, solo_run}
 use Rattle.shared_work.proofs.whole.fill.Goals as goal
 

@@ -1,7 +1,6 @@
-use Rattle.std.proofs.Common.{Result, List, [], ◌∷◌, Ok, Err, refl, ap}
+use Rattle.std.proofs.Common.{Result, [], ◌∷◌, Ok, Err, refl, ap}
 use Rattle.actor_parts.specs.Asking.{Ask}
 use Rattle.actor_parts.specs.StepValue as asked
-use Rattle.namespace.specs.Listing.{NamedRoot}
 use Rattle.refusals.specs.declared.refusal.Refusal.{Refusal}
 use Rattle.session_turns.proofs.Results.{by_error}
 use Rattle.shared_work.specs.Whole.{Lists}

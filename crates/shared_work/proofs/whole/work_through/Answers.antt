@@ -1,13 +1,9 @@
-use Rattle.std.proofs.Common.{◌≡◌, false, ◌≤◌, ℕ, List, map, length, Result, Ok, Err, refl, sym, ap, ◌∙◌, subst, arith}
+use Rattle.std.proofs.Common.{◌≡◌, ◌≤◌, ℕ, map, length, Err, sym, ap, ◌∙◌, subst, arith}
 use Rattle.std.proofs.lemmas.List.{length-map}
 use Rattle.namespace.specs.Listing.{listed_value}
-use Rattle.actor_parts.specs.Asking.{Ask}
-use Rattle.refusals.specs.declared.refusal.Refusal.{Refusal}
 use Rattle.refusals.specs.declared.refusal.Refusal.TheVariants.{NotEmpty}
 use Rattle.store_core.specs.Runs.{CoreRun}
 use Rattle.shared_store.specs.Telling.{event_of}
-use Rattle.store_machine.specs.Remembering.{RootMachine}
-use Rattle.core_machine.specs.Refines.{IsMachine}
 use Rattle.shared_work.specs.Whole.{Plan, WorksThrough}
 use Rattle.shared_work.proofs.Filling.{filled, listed_idle, not_empty, solo_run, unlisted}
 use Rattle.shared_work.proofs.whole.work_through.Goals as goal

@@ -14,12 +14,14 @@ use crate::plays::{Draw, Give, Look, Meet, PassOn, Post};
 use atomic_table::{Refused, Table};
 use std::alloc::Global;
 use std::array::from_fn;
+use std::hint::spin_loop;
 use std::snapshot::Snapshot;
 use std::sync::Wait;
 use std::sync::atomic::{AtomicU64, Ordering};
 
-// How often a waiting pass looks which ticket is served, before it sleeps: most turns take less time than a thread takes to be woken.
-const LOOKS: u32 = 6_000;
+// How often a pass looks which ticket is served, as its turn comes, before it sleeps: most turns take less time than a thread takes to be
+// woken. Between two looks the processor pauses.
+const LOOKS: u32 = 2_000;
 
 // A pass that is further from its turn than so many sleeps at once. It is woken as it comes so near, so that it looks as its turn comes.
 const NEAR: u64 = 2;
@@ -76,6 +78,7 @@ impl<C: Booked> TurnLock<C> {
             }
             if looks > 0 && ticket.wrapping_sub(served) <= NEAR {
                 looks -= 1;
+                spin_loop();
             } else if !told {
                 bell.store(ASLEEP, Ordering::SeqCst);
                 told = true;

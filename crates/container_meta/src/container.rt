@@ -71,7 +71,8 @@ impl Model for OpenContainer {
 
 impl OpenContainer {
     ghost use Rattle.container_meta.specs.Format.{is_id};
-    ghost use Rattle.container_meta.specs.Segments.{CanAdd, StandFrom, entries_from, segment_at, has_key, has_room as room_for, has_segment, is_segment};
+    ghost use Rattle.container_meta.specs.Segments.{CanAdd, StandFrom, entries_from, segment_at, has_key};
+    ghost use Rattle.container_meta.specs.Segments.{has_room as room_for, has_segment, is_segment};
     ghost use Rattle.container_meta.specs.Spelling.{IsHeader, IsSpelled, header_of, header_digest, container_spelling};
 
     /// An empty container, with all the memory that it will need. It fails for want of memory alone.

@@ -33,7 +33,8 @@ in_free id filled store = placed (closed_from 0 store.held) id filled
 
 -- those that are sealed of an offer
 abbrev pub offer_in : Tables → List Contents → Store → List Placed
-offer_in t filled store = in_free (t.held.last_id + 1) (take (sealed_of (length filled) (free_slots store.held) t.held.last_id) filled) store
+offer_in t filled store = in_free (t.held.last_id + 1)
+    (take (sealed_of (length filled) (free_slots store.held) t.held.last_id) filled) store
 
 -- so many are sealed of so many that are offered, by each store that the tables represent
 abbrev pub IsRoomFor : Tables → ℕ → ℕ → Type 0

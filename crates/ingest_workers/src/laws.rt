@@ -19,23 +19,23 @@ pub fn what_jobs_ask_for_is_owed()
     ensures { JobsAreOwed }
 {}
 
-/// Of a core that is at a store of files, on a settled disk, over data without collisions that has all segments of the files: where what each
-/// actor asks for is due so, steps by any actors are right, whatever collections come between. Data that is claimed or sealed is among the
-/// data, and a commit is of all bytes of a file, whose tree is held as it is done. The function does nothing.
+/// Of a core that is at a store of files, on a settled disk, over data without collisions that has all segments of the files: where
+/// what each actor asks for is due so, steps by any actors are right, whatever collections come between. Data that is claimed or
+/// sealed is among the data, and a commit is of all bytes of a file, whose tree is held as it is done. The function does nothing.
 pub fn what_is_owed_is_right<C: HasState>()
     ensures { OwedRunsAreRight C C.state }
 {}
 
-/// As steps of jobs' files are made by their workers, each name that has a file stays one of the two of a job, with all bytes of its file.
-/// Where all jobs of different numbers are done and stored, the second name of each has its file, and the first has none. The function
-/// does nothing.
+/// As steps of jobs' files are made by their workers, each name that has a file stays one of the two of a job, with all bytes of its
+/// file. Where all jobs of different numbers are done and stored, the second name of each has its file, and the first has none. The
+/// function does nothing.
 pub fn done_jobs_have_names()
     ensures stay { StreamsStay }
     ensures names { JobsHaveNames }
 {}
 
-/// In a run of a core that answers 12 only once it is stopped, a worker whose actor was idle leaves it idle, or its last step found the store
-/// stopped. The function does nothing.
+/// In a run of a core that answers 12 only once it is stopped, a worker whose actor was idle leaves it idle, or its last step found
+/// the store stopped. The function does nothing.
 pub fn a_worker_leaves_its_actor<C: HasState>()
     ensures { WorkersLeave C C.state }
 {}

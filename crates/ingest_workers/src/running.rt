@@ -108,10 +108,11 @@ fn rooms_for<S: StoreCalls + Drop>(
     })
 }
 
-/// Does all jobs, each once: each caller does those whose number leaves its own place when divided by how many callers there are, in order,
-/// in a thread of its own where one can be had. There is one caller at least. Callers come back in their order, and how each job ended
-/// stands at the place of the job; one that is refused ends there, and its caller goes on. It fails for want of memory alone, before any job
-/// begins, and hands the callers back then. A file is read until its end is answered, so it promises what it promises if it returns.
+/// Does all jobs, each once: each caller does those whose number leaves its own place when divided by how many callers there are, in
+/// order, in a thread of its own where one can be had. There is one caller at least. Callers come back in their order, and how each
+/// job ended stands at the place of the job; one that is refused ends there, and its caller goes on. It fails for want of memory
+/// alone, before any job begins, and hands the callers back then. A file is read until its end is answered, so it promises what it
+/// promises if it returns.
 pub fn run_jobs<S: StoreCalls + Send + Drop, G: Gate + Sync, R: Threads + Wait + Sync>(
     rt: &R,
     alloc: Global,

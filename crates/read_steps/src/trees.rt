@@ -60,7 +60,8 @@ fn walk_next<D: Disk, N: NotesKeys>(
     // Where the disk tells its content, and trees that it holds are to come.
     ensures held { WhereHeld index.old (D.view disk.old).content (λ counts held image. IsHeld counts held image cursor.old)
         (λ counts held image. MatchResult result (λ _. IsHeld counts held image cursor.new) (λ refusal. IsTrue (fails refusal))) }
-    ensures rest { (index.new ≡ index.old) × (length buf.new ≡ length buf.old) × ((p : PlaceValue) → N.takes notes.old p → N.takes notes.new p) }
+    ensures rest { (index.new ≡ index.old) × (length buf.new ≡ length buf.old)
+        × ((p : PlaceValue) → N.takes notes.old p → N.takes notes.new p) }
     ensures reads { Reads (ending blames result) (D.view disk.old) (D.view disk.new) }
 {
     if passed.note(cursor)? {

@@ -20,8 +20,8 @@ pub trait MakesSteps {
     /// What a step does: the maker before, the actor, what was asked, the answer, what the buffer then holds, the maker after.
     ghost makes: { Self → ℕ → StepValue → Result Answer Refusal → List ℕ → Self → Type 0 };
 
-    /// Makes a step of an actor. A segment of a tree in it is a node of its level, and a container holds a segment at least. What is answered
-    /// is of the step.
+    /// Makes a step of an actor. A segment of a tree in it is a node of its level, and a container holds a segment at least. What is
+    /// answered is of the step.
     fn make(&mut self, actor: Actor, step: Step<'_>, buf: &mut SegBuf) -> Result<Answer, Refusal>
         requires asked { IsStep (step_value step) }
         requires running { runs self.old }

@@ -55,8 +55,8 @@ module _ {C : Type 0} (state : C → CoreState) where
 
   -- ---- a split
 
-  -- Another pass was made, of a number of its own, that has made no step. Both have seen the whole history, and know how many lines the book
-  -- has after it; the first has all else that it had.
+  -- Another pass was made, of a number of its own, that has made no step. Both have seen the whole history, and know how many lines
+  -- the book has after it; the first has all else that it had.
   pub record SplitsPass (old new other : PassValue C) : Type 0 where
     pub splits : Splits (MadeBy state) lines_of old.view (actor_of other) other.lines (new.view, []) (other.view, [])
     pub below : actor_of other < ACTORS
@@ -106,8 +106,8 @@ module _ {C : Type 0} (state : C → CoreState) where
 -- ---- an opening
 
 -- a core was opened on the disk, and this is the first pass of a store over it
-pub record OpensStore (D : Type 0) (view : D → DiskView) {C : Type 0} (state : C → CoreState) (old : DiskView) (store : TableId) (pass : PassValue C)
-    : Type 0 where
+pub record OpensStore (D : Type 0) (view : D → DiskView) {C : Type 0} (state : C → CoreState) (old : DiskView) (store : TableId)
+    (pass : PassValue C) : Type 0 where
   pub core : C
   pub opens : OpensCore D view old (state core)
   pub running : IsRunning (state core)

@@ -90,7 +90,8 @@ module _ {C : Type 0} (state : C → CoreState) where
     pub run : Run of_files (map file_step (files_in S o log history)) m left
     pub of_turns : map file_actor (files_in S o log history) ≡ makers log
     pub is_left : IsFileMachine S left (state (last_of o log))
-    pub moments : CrashLeaves (IsOfPassed S (map file_step (files_in S o log history)) m left run) (state o).disk (state (last_of o log)).disk
+    pub moments : CrashLeaves (IsOfPassed S (map file_step (files_in S o log history)) m left run)
+        (state o).disk (state (last_of o log)).disk
 
   -- so it is over data without collisions
   abbrev pub AreFileRuns : Type 0
@@ -105,7 +106,8 @@ module _ {C : Type 0} (state : C → CoreState) where
     pub after : FileMachine
     pub run : Run of_files (file_step f ∷ []) before.left after
     pub is_after : IsFileMachine S after (state called.after)
-    pub moments : CrashLeaves (IsOfPassed S (file_step f ∷ []) before.left after run) (state called.found).disk (state called.after).disk
+    pub moments : CrashLeaves (IsOfPassed S (file_step f ∷ []) before.left after run)
+        (state called.found).disk (state called.after).disk
 
   abbrev pub AreFileCalls : Type 0
   AreFileCalls = (among : ByteSet) (o : C) (m : FileMachine) (v w : View C) (f : FileEvent) → HasNoCollisions (IsIn among)
@@ -115,8 +117,8 @@ module _ {C : Type 0} (state : C → CoreState) where
       → IsFileCall (IsIn among) m o v w f called history
 
   -- A disk that comes back at a close stands for the files of all turns, also where one of them stopped the store.
-  pub record EndsAt (S : List ℕ → Type 0) (m : FileMachine) (o : C) (log : List (Turn C)) (history : IsRight S o log) (core : C) (disk : DiskView)
-      : Type 0 where
+  pub record EndsAt (S : List ℕ → Type 0) (m : FileMachine) (o : C) (log : List (Turn C)) (history : IsRight S o log) (core : C)
+      (disk : DiskView) : Type 0 where
     pub ran : IsFileRun S m o log history
     pub core_is : core ≡ last_of o log
     pub stands : StandsFor S ran.left disk

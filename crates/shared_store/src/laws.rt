@@ -9,9 +9,9 @@ use core_machine::{a_core_is_the_machine, a_core_is_the_machine_of_files};
 use dd_disk::Disk;
 use store_core::{HasState, a_core_runs_on};
 
-/// What a caller has asked for are the turns of its pass, each once, in their order; it stays so as the history goes on, and of a number
-/// that has made no turn it is nothing. Where the turns of each number are told, the history is just these steps; and these are a run of the
-/// core, one for each turn, by its actor. The function does nothing.
+/// What a caller has asked for are the turns of its pass, each once, in their order; it stays so as the history goes on, and of a
+/// number that has made no turn it is nothing. Where the turns of each number are told, the history is just these steps; and these are
+/// a run of the core, one for each turn, by its actor. The function does nothing.
 pub fn a_history_is_what_was_asked<C: HasState>()
     ensures asked { AsksAreTold C.state }
     ensures stays { TellsOn actor_in (MakesStep C.state) }
@@ -30,10 +30,10 @@ pub fn a_history_is_legal<C: HasState>()
     a_core_is_the_machine::<C>();
 }
 
-/// Over data without collisions, where the disk tells its content and each step is given what is right: a history is a run of the machine of
-/// files, and a call is a step of it; at any moment, also inside a write, a crash leaves files that the run comes by; and a disk that comes
-/// back at the end stands for the files of all turns. Where the right steps of each number are told the history is just these. The function
-/// does nothing.
+/// Over data without collisions, where the disk tells its content and each step is given what is right: a history is a run of the
+/// machine of files, and a call is a step of it; at any moment, also inside a write, a crash leaves files that the run comes by; and a
+/// disk that comes back at the end stands for the files of all turns. Where the right steps of each number are told the history is just
+/// these. The function does nothing.
 pub fn a_history_keeps_files<D: Disk, C: HasState>()
     ensures runs { AreFileRuns C.state }
     ensures calls { AreFileCalls C.state }

@@ -151,10 +151,10 @@ fn fill<C: HasState + Drop + Send, G: Gate + Sync, R: Threads + Wait + Sync>(
     }
 }
 
-/// Fills a store that has no names: so many workers store the files of all jobs, each under its second name in the end, and read them once,
-/// as whole collections are made beside them; then one more is made, and what the store has then is told. One that has names is refused by
-/// `NotEmpty`. A job that is refused ends there, and the others go on; then nothing more is done. It promises what it promises if it
-/// returns, as workers do (`ingest_workers::run_jobs`).
+/// Fills a store that has no names: so many workers, 1 to 63, store the files of all jobs, each under its second name in the end, and
+/// read them once, as whole collections are made beside them; then one more is made, and what the store has then is told. One that has
+/// names is refused by `NotEmpty`. A job that is refused ends there, and the others go on; then nothing more is done. It promises what
+/// it promises if it returns, as workers do (`ingest_workers::run_jobs`).
 pub fn work_through<C: HasState + Drop + Send, G: Gate + Sync, R: Threads + Wait + Sync>(
     rt: &R,
     alloc: Global,

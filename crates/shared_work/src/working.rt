@@ -330,11 +330,12 @@ fn undone<C>(core: C) -> Worked<C>
     }
 }
 
-/// Has so many workers do jobs by one store over a core that runs and is idle, each by a thread of its own where one can be had: the worker
-/// w, from 0 on, does those whose number leaves w when divided by how many workers there are, as the actor w + 1. As the actor 0 one more
-/// caller makes whole collections with this percentage while jobs are left, 1,024 at most and up to the first that is refused. When all
-/// have returned the core comes back. Where there is no memory for the jobs none begins; else a job or a collection that is refused ends
-/// there, and the others go on. It waits for turns and reads files to their ends, so it promises what it promises if it returns.
+/// Has so many workers, 1 to 63, do jobs by one store over a core that runs and is idle, each by a thread of its own where one can be
+/// had: the worker w, from 0 on, does those whose number leaves w when divided by how many workers there are, as the actor w + 1. As
+/// the actor 0 one more caller makes whole collections with this percentage while jobs are left, 1,024 at most and up to the first that
+/// is refused. When all have returned the core comes back. Where there is no memory for the jobs none begins; else a job or a collection
+/// that is refused ends there, and the others go on. It waits for turns and reads files to their ends, so it promises what it promises
+/// if it returns.
 pub fn work_together<C: HasState + Drop + Send, G: Gate + Sync, R: Threads + Wait + Sync>(
     rt: &R,
     alloc: Global,

@@ -1,11 +1,13 @@
 -- What the top call promises, from what a command keeps.
-use Rattle.backup_engine.proofs.Prelude.{◌≡◌, inl, inr, refl, sym, ap, ◌∙◌, option_map, subst, ℕ, List, [], Option, Some, None, Err, DiskView, reads_here, SourceView, SinkView, Replied, Memory, Words, Refused, ReadsTellScripts, CommandLine, TableLine, Single, Check, Work, Format, Ingest, Restore, Collect, status_by, IsCollect, IsDelete, IsIngest, IsListing, IsRestore, IsSameDisk, Does, Promise}
+use Rattle.backup_engine.proofs.Prelude.{◌≡◌, inl, inr, refl, sym, ap, ◌∙◌, option_map, subst, ℕ, List, [], Option, Some, None, Err, DiskView, reads_here, SourceView, SinkView, Replied, Memory, Words, Refused, ReadsTellScripts, CommandLine, TableLine, Single, Check, alone_line, Work, Format, Ingest, Restore, Collect, status_by, IsCollect, IsDelete, IsIngest, IsListing, IsRestore, IsSameDisk, Does, Promise}
 use Rattle.reply_text.specs.declared.ending.Ending.{Ending}
 use Rattle.reply_text.specs.Table.{status_of}
 use Rattle.backup_engine.specs.Line.{Run, Delete}
 use Rattle.backup_engine.specs.Line as table
 use Rattle.backup_engine.specs.LineValue.{line_value}
+use Rattle.backup_engine.specs.declared.load_words.Load.{Load}
 use Rattle.backup_engine.specs.declared.words.Line.{Line}
+use Rattle.backup_engine.specs.declared.words.Line.TheVariants as words
 use Rattle.backup_engine.specs.Noted.{IsNoted, AreNoted}
 use Rattle.backup_engine.specs.Seen.{Seen, devices}
 use Rattle.backup_engine.specs.TopCall.{KeepsLine}
@@ -155,3 +157,10 @@ promise_as D view line said status seen is promise = subst (λ (l : Option Table
 pub line_as : {read : Option Line} {line said : Line} {of : Option TableLine} → option_map line_value read ≡ of → read ≡ Some line → line ≡ said
     → of ≡ Some (line_value said)
 line_as is read_is said_is = sym is ∙ ap (option_map line_value) read_is ∙ ap (λ (l : Line). Some (line_value l)) said_is
+
+-- a line that starts no workers, as one of the commands that start none
+pub alone_as : (line : Line) → ((load : Load) → line ≡ words.Work load → ⊥) → alone_line (Some (line_value line)) ≡ Some (line_value line)
+alone_as (words.Single command) none = refl
+alone_as words.Run none = refl
+alone_as words.Check none = refl
+alone_as (words.Work load) none = absurd (none load refl)

@@ -57,8 +57,7 @@ pub record Keeps (command : CommandLine) (given : List ℕ) (ending : Option End
   pub blank : IsLeftBlank command saw.disk saw.disk_now
   pub untouched : IsUntouched command ending saw.disk saw.disk_now
 
--- All that is known of the disk is what was: also the moment, which each read, write and sync makes rise. (A view is too large a
--- type for ≡.)
+-- All that is known of the disk is what was, the moment too, which each call makes rise. (A view is too large a type for ≡.)
 pub record IsSameDisk (disk disk_now : DiskView) : Type 0 where
   pub size_is : disk_now.size ≡ disk.size
   pub content_is : disk_now.content ≡ disk.content
@@ -90,8 +89,7 @@ abbrev pub OnceThereWasRoom : (D : Type 0) → (D → DiskView) → (DiskView �
 OnceThereWasRoom D view P ending disk disk_now =
     (P disk × NeedsNoRoom ending disk disk_now) ⊎ ((mid : D) × (RoomMade disk (view mid) × IsLater (view mid) disk_now × P (view mid)))
 
--- No room was made, where too few slots were closed: no line was run. Where a write or a sync failed, containers may have been given
--- back.
+-- No room was made, where too few slots were closed: no line was run. Containers may have been given back before a call failed.
 pub record MakesNoRoom (rs : List Replied) (ending : Option Ending) (disk disk_now : DiskView) (source source_now : SourceView)
     (sink sink_now : SinkView) : Type 0 where
   pub refusal : Refusal

@@ -14,11 +14,13 @@ use dd_disk::Disk;
 use dd_io::{Sink, Source};
 use reply_text::Ending;
 use std::alloc::Global;
+use std::thread::Threads;
 use store_core::Core;
 use summary_vector::NoSummary;
 
 /// Stores all that the source has left under a name, and writes the reply.
-pub(crate) fn ingest<D: Disk, S: Source, K: Sink>(
+pub(crate) fn ingest<D: Disk, S: Source, K: Sink, R: Threads + Sync>(
+    rt: &R,
     alloc: Global,
     disk: &mut D,
     source: &mut S,
@@ -39,7 +41,7 @@ pub(crate) fn ingest<D: Disk, S: Source, K: Sink>(
             return Err(Ending::Refused(refusal));
         }
     };
-    let stored = store_source(alloc, &mut core, source, sink, name);
+    let stored = store_source(rt, alloc, &mut core, source, sink, name);
     let _disk = core.close();
     stored
 }

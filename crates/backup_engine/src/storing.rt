@@ -16,10 +16,13 @@ use crate::putting::{commit, first};
 use crate::reply::send;
 use actor_parts::{SegBuf, Step};
 use dd_io::{Sink, Source};
-use ingest_session::{Due, Session, bytes_are_counted, children_come_first, steps_have_pieces};
+use ingest_session::{
+    Due, LONG_QUEUE, Session, bytes_are_counted, children_come_first, steps_have_pieces,
+};
 use reply_text::{Ending, stored_line};
 use session_turns::{MOST_PIECE, feed, make_turns};
 use std::alloc::Global;
+use std::thread::Threads;
 use store_core::HasState;
 
 // The laws that feeding a session rests on. The function does nothing.
@@ -38,8 +41,25 @@ fn can_be_pushed(bytes: &[u8])
     ensures { (d : Digits) × (pushed_bytes d.digits ≡ bytes.now) }
 {}
 
+// Takes the digests of all segments that wait, at once. Where there is no memory for them, each is taken as its turn comes.
+fn hash<R: Threads + Sync>(rt: &R, session: &mut Session)
+    ensures { session.new ≡ session.old }
+{
+    let _taken = session.hash(rt);
+}
+
+// The same before turns are made of a full queue, where the first that waits has no digest.
+fn hash_full<R: Threads + Sync>(rt: &R, session: &mut Session)
+    ensures { session.new ≡ session.old }
+{
+    if session.queued() > session.most_waiting() && session.hash_pays() {
+        hash(rt, session);
+    }
+}
+
 // Has a session take all that the source has left; turns are made as its queue fills.
-fn fill<C: HasState, S: Source>(
+fn fill<C: HasState, S: Source, R: Threads + Sync>(
+    rt: &R,
     core: &mut C,
     session: &mut Session,
     source: &mut S,
@@ -59,15 +79,18 @@ fn fill<C: HasState, S: Source>(
             return Err(Ending::Source);
         };
         if count == 0 {
+            hash(rt, session);
             return Ok(());
         }
         can_be_pushed(&piece[..count]);
         feed(core, first(), session, &piece[..count], buf)?;
+        hash_full(rt, session);
     }
 }
 
 // The same, and makes all turns that are due then.
-fn take_in<C: HasState, S: Source>(
+fn take_in<C: HasState, S: Source, R: Threads + Sync>(
+    rt: &R,
     core: &mut C,
     session: &mut Session,
     source: &mut S,
@@ -82,14 +105,15 @@ fn take_in<C: HasState, S: Source>(
     ensures running { IsRunning (C.state core.new) }
 {
     sessions_have_laws();
-    fill(core, session, source, buf)?;
+    fill(rt, core, session, source, buf)?;
     session.finish()?;
     make_turns(core, first(), session, buf)?;
     Ok(())
 }
 
-/// Stores all that the source has left under a name, and writes the reply.
-pub(crate) fn store_source<C: HasState, S: Source, K: Sink>(
+/// Stores all that the source has left under a name, and writes the reply. Digests are taken by several threads.
+pub(crate) fn store_source<C: HasState, S: Source, K: Sink, R: Threads + Sync>(
+    rt: &R,
     alloc: Global,
     core: &mut C,
     source: &mut S,
@@ -102,9 +126,9 @@ pub(crate) fn store_source<C: HasState, S: Source, K: Sink>(
     ensures running { IsRunning (C.state core.new) }
 {
     let mut buf = SegBuf::new(alloc)?;
-    let mut session = Session::new(alloc)?;
+    let mut session = Session::new(alloc, LONG_QUEUE)?;
     core.make_step(first(), Step::Begin, &mut buf)?;
-    take_in(core, &mut session, source, &mut buf)?;
+    take_in(rt, core, &mut session, source, &mut buf)?;
     let Some(root) = session.ready() else {
         unreachable!()
     };

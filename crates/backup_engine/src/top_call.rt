@@ -6,7 +6,7 @@ ghost use Rattle.store_machine.specs.Commands.{Replied};
 ghost use Rattle.reply_text.specs.Table.{status_of as table_status};
 ghost use Rattle.backup_engine.specs.Checking.{ChecksDisk};
 ghost use Rattle.backup_engine.specs.Line.{Single, alone_line, line_of};
-ghost use Rattle.backup_engine.specs.LineValue.{command_value, IsRightCommand, size_made};
+ghost use Rattle.backup_engine.specs.LineValue.{command_value, line_value, IsRightCommand, IsRightLine, size_made};
 ghost use Rattle.backup_engine.specs.Noted.{AreNoted, IsNoted, status_by};
 ghost use Rattle.backup_engine.specs.TopCall.{Promise, Does, ending_in};
 ghost use Rattle.backup_engine.specs.Seen.{devices};
@@ -76,16 +76,15 @@ pub fn backup<
         Err(_) => return give_up(notes, &Ending::Refused(Refusal::Memory)),
     };
     match line {
-        Line::Single(command) => conclude(notes, run_command(alloc, &command, disk, source, sink)),
-        Line::Run => conclude(notes, run(alloc, disk, source, sink)),
-        Line::Check => check_disk(alloc, disk, sink, notes),
         Line::Work(load) => conclude(notes, work(rt, alloc, disk, sink, &load, gate)),
+        line => run_alone(rt, alloc, &line, disk, source, sink, notes),
     }
 }
 
-/// `backup` for the commands that start no threads: the words of another are no line of the table here.
-pub fn backup_alone<R, D: Disk + Send, S: Source, K: Sink, Q: Sink>(
-    _rt: &R,
+/// `backup` for the commands that wait for no other thread's work, so that it always returns: the words of `work` are no line of the
+/// table here. The threads by which `ingest` takes digests have ended before it returns.
+pub fn backup_alone<R: Threads + Sync, D: Disk + Send, S: Source, K: Sink, Q: Sink>(
+    rt: &R,
     alloc: Global,
     words: &[String],
     disk: &mut D,
@@ -111,12 +110,7 @@ pub fn backup_alone<R, D: Disk + Send, S: Source, K: Sink, Q: Sink>(
         Ok(None) => return give_up(notes, &Ending::Words),
         Err(_error) => return give_up(notes, &Ending::Refused(Refusal::Memory)),
     };
-    match found {
-        Line::Single(command) => conclude(notes, run_command(alloc, &command, disk, source, sink)),
-        Line::Run => conclude(notes, run(alloc, disk, source, sink)),
-        Line::Check => check_disk(alloc, disk, sink, notes),
-        Line::Work(_) => give_up(notes, &Ending::Words),
-    }
+    run_alone(rt, alloc, &found, disk, source, sink, notes)
 }
 
 /// The size in bytes of the disk that `format N` makes a store on, where the words are such a line of the table.
@@ -130,8 +124,43 @@ pub fn size_of_format(alloc: Global, words: &[String]) -> Result<Option<u64>, Al
     }
 }
 
+// Does what a line says that starts no workers, and gives the exit status. The words of another are no line of the table here.
+fn run_alone<D: Disk + Send, S: Source, K: Sink, Q: Sink, R: Threads + Sync>(
+    rt: &R,
+    alloc: Global,
+    line: &Line<'_>,
+    disk: &mut D,
+    source: &mut S,
+    sink: &mut K,
+    notes: &mut Q,
+) -> u8
+    requires { IsRightLine line.now }
+    ensures promise { Promise D D.view (alone_line (Some (line_value line.now))) result (record {
+      disk = D.view disk.old;
+      disk_now = D.view disk.new;
+      source = S.view source.old;
+      source_now = S.view source.new;
+      sink = K.view sink.old;
+      sink_now = K.view sink.new;
+      notes = Q.view notes.old;
+      notes_now = Q.view notes.new;
+    }) }
+    ensures later { IsLater (D.view disk.old) (D.view disk.new) }
+{
+    match line {
+        Line::Single(command) => conclude(
+            notes,
+            run_command(rt, alloc, command, disk, source, sink),
+        ),
+        Line::Run => conclude(notes, run(alloc, disk, source, sink)),
+        Line::Check => check_disk(alloc, disk, sink, notes),
+        Line::Work(_) => give_up(notes, &Ending::Words),
+    }
+}
+
 // Does what a command says.
-fn run_command<D: Disk, S: Source, K: Sink>(
+fn run_command<D: Disk, S: Source, K: Sink, R: Threads + Sync>(
+    rt: &R,
     alloc: Global,
     command: &Command<'_>,
     disk: &mut D,
@@ -146,7 +175,7 @@ fn run_command<D: Disk, S: Source, K: Sink>(
 {
     match command {
         Command::Format(slots) => format(alloc, disk, sink, *slots),
-        Command::Ingest(name) => ingest(alloc, disk, source, sink, name),
+        Command::Ingest(name) => ingest(rt, alloc, disk, source, sink, name),
         Command::Restore(name) => restore(alloc, disk, sink, name),
         Command::Delete(name) => delete(alloc, disk, sink, name),
         Command::List => list(alloc, disk, sink),

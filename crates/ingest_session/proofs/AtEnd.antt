@@ -53,7 +53,9 @@ module _ (s : SessionState) (is : IsSession s) (ongoing : s.ended ≡ false) whe
         hand = refl;
         uncut = empty_is_uncut;
         room = λ on. absurd (cc);
-        most = omega (arith, more, is.room ongoing);
+        least = is.least;
+        limit = is.limit;
+        at_end = omega (arith, more, is.room ongoing);
         sized = all_and_one _ s.queue x is.sized (some, few);
         ahead = ahead_stays s.ahead s.queue x is.ahead;
         spelled = is.spelled;
@@ -86,7 +88,9 @@ module _ (s : SessionState) (is : IsSession s) (ongoing : s.ended ≡ false) whe
         hand = refl;
         uncut = empty_is_uncut;
         room = λ on. absurd (cc);
-        most = is.most;
+        least = is.least;
+        limit = is.limit;
+        at_end = is.at_end;
         sized = is.sized;
         ahead = is.ahead;
         spelled = is.spelled;

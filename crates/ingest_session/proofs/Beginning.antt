@@ -1,9 +1,11 @@
 -- A new session.
-use Rattle.ingest_session.proofs.Prelude.{◌≡◌, ◌∙◌, ℕ, false, List, [], length, map, refl, ap, arith, Leaf, Tree, Contents, Hand, empty_hand, ByCount, itself, Progress, Holds, levels_left, nodes_in_rows, open_over, total_of, IsSession}
+use Rattle.ingest_session.proofs.Prelude.{◌≡◌, ◌≤◌, ◌∙◌, ℕ, false, List, [], length, map, refl, ap, arith, Leaf, Tree, Contents, Hand, empty_hand, ByCount, itself, Progress, Holds, levels_left, nodes_in_rows, open_over, total_of, IsSession}
 use Rattle.std.proofs.Common.{None}
 use Rattle.merkle_file.specs.Node as node
 use Rattle.merkle_file.specs.Tree.{child_of}
 use Rattle.merkle_file.specs.Building.{open_trees, whole_from, rest_from}
+use Rattle.ingest_session.specs.Buffers.{Waiting}
+use Rattle.ingest_session.specs.declared.queue.TheConstants.{QUEUE, LONG_QUEUE}
 use Rattle.ingest_session.proofs.Uncut.{empty_is_uncut}
 
 nothing_is_finished : nodes_in_rows itself (open_over ByCount []) ≡ []
@@ -17,14 +19,15 @@ nothing_is_begun : levels_left (map (map (child_of itself)) (open_over ByCount [
 unfolding open_trees whole_from rest_from
 nothing_is_begun = refl
 
-pub new_is_session : (hand : Hand) (queue : List (List ℕ)) (line : List node.Contents) (b : Progress) (leaves nodes : Contents)
-    (aside : List Contents) → hand ≡ empty_hand → queue ≡ [] → line ≡ [] → Holds b [] []
+pub new_is_session : (hand : Hand) (queue : Waiting) (most : ℕ) (line : List node.Contents) (b : Progress) (leaves nodes : Contents)
+    (aside : List Contents) → QUEUE ≤ most → most ≤ LONG_QUEUE → hand ≡ empty_hand → queue ≡ record { most = most; segments = [] } → line ≡ [] → Holds b [] []
     → leaves ≡ record { kind = Leaf; segments = [] } → nodes ≡ record { kind = Tree; segments = [] } → aside ≡ []
     → IsSession (record {
       count = 0;
       ended = false;
       hand = hand;
-      queue = queue;
+      queue = queue.segments;
+      most = queue.most;
       ahead = None;
       line = line;
       spelled = None;
@@ -37,7 +40,7 @@ pub new_is_session : (hand : Hand) (queue : List (List ℕ)) (line : List node.C
       waits = false;
       unseen = 0;
     })
-new_is_session hand queue line b leaves nodes aside empty none unlined holds first second third =
+new_is_session hand queue most line b leaves nodes aside least limit empty none unlined holds first second third =
     let bytes : total_of b.rows ≡ 0 = holds.length in
     let count : b.leaves ≡ 0 = holds.count in
     rw (empty, none, unlined, first, second, third)
@@ -47,8 +50,10 @@ new_is_session hand queue line b leaves nodes aside empty none unlined holds fir
       few = omega arith;
       hand = refl;
       uncut = empty_is_uncut;
+      least = least;
+      limit = limit;
       room = λ ongoing. omega arith;
-      most = omega arith;
+      at_end = omega arith;
       sized = tt;
       ahead = tt;
       spelled = tt;

@@ -52,6 +52,7 @@ unturned ended segments c placed = record {
   ended = ended;
   hand = empty_hand;
   queue = queue_at segments placed;
+  most = 0;
   ahead = None;
   line = line_at ended segments placed;
   spelled = None;

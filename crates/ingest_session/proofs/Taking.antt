@@ -3,7 +3,6 @@ use Rattle.ingest_session.proofs.Prelude.{◌≡◌, ◌≤◌, ◌<◌, ◌+◌
 use Rattle.std.proofs.Common.{Option, None}
 use Rattle.segmenter.specs.declared.cutting.Taken.{Taken}
 use Rattle.segmenter.specs.Cutting.{Takes, IsOne}
-use Rattle.ingest_session.specs.declared.queue.TheConstants.{QUEUE}
 use Rattle.ingest_session.proofs.Lists.{all_and_one}
 use Rattle.ingest_session.proofs.Uncut.{empty_is_uncut}
 use Rattle.ingest_session.proofs.Rests.{rest_grows, ahead_stays, full_stays, item_stays, long_and_one}
@@ -33,7 +32,7 @@ not_last_and_one true [] x last = cc
 not_last_and_one true (y ∷ ys) x last = cc
 
 module _ (s : SessionState) (bytes : List ℕ) (taken : Taken) (hand : Hand) (is : IsSession s) (ongoing : s.ended ≡ false) where
-  pub cut_off_is_session : s.count + length bytes ≤ MOST_FILE → length s.queue + s.unseen < QUEUE → Takes s.hand bytes taken hand → taken.whole ≡ true
+  pub cut_off_is_session : s.count + length bytes ≤ MOST_FILE → length s.queue + s.unseen < s.most → Takes s.hand bytes taken hand → taken.whole ≡ true
       → LEAST_SEGMENT ≤ length hand.bytes → IsOne hand.bytes → IsSession (cut_off s taken.taken hand.bytes)
   cut_off_is_session few room takes whole least one =
       let grows = rest_grows s.ahead s.queue hand.bytes is.ahead in
@@ -46,8 +45,10 @@ module _ (s : SessionState) (bytes : List ℕ) (taken : Taken) (hand : Hand) (is
         few = omega (arith, few, takes.within);
         hand = refl;
         uncut = empty_is_uncut;
+        least = is.least;
+        limit = is.limit;
         room = λ _. omega (arith, more, room);
-        most = omega (arith, more, room);
+        at_end = omega (arith, more, room);
         sized = all_and_one _ s.queue hand.bytes is.sized (omega (arith, least), one.at_most);
         ahead = ahead_stays s.ahead s.queue hand.bytes is.ahead;
         spelled = is.spelled;

@@ -1,5 +1,6 @@
 -- Items that need no step go to their place, and those whose turn it is get their segments.
-use Rattle.std.specs.Prelude.{◌≡◌, ◌+◌, ◌<◌, ℕ, Bool, true, false, length, None, IsSome}
+use Rattle.std.specs.Prelude.{◌≡◌, ◌+◌, ◌-◌, ◌<◌, ℕ, Bool, true, false, length, None, IsSome}
+use Rattle.ingest_session.specs.declared.queue.TheConstants.{SPARED}
 use Rattle.ingest_session.specs.Sound.{IsSession}
 use Rattle.ingest_session.specs.State.{SessionState, turn_node}
 use Rattle.ingest_session.specs.Due.{needs_no_step, puts_aside, turn_in}
@@ -35,3 +36,7 @@ Passes false old new = IsPlaced new × (new.waits ≡ false)
 -- how many segments are seen to wait
 abbrev pub seen : SessionState → ℕ
 seen s = length s.queue + s.unseen
+
+-- how many are to wait at most before a piece is given, so that it is taken whole
+abbrev pub most_waiting : SessionState → ℕ
+most_waiting s = s.most - SPARED

@@ -6,7 +6,7 @@ use Rattle.container_meta.specs.declared.kind.Kind.TheVariants.{Leaf, Tree}
 use Rattle.container_meta.specs.Segments.{Contents}
 use Rattle.actor_parts.specs.declared.step.TheConstants.{MOST_TOGETHER}
 use Rattle.actor_parts.specs.Segments.{AreStepSegments}
-use Rattle.ingest_session.specs.declared.queue.TheConstants.{QUEUE, BUFFERS}
+use Rattle.ingest_session.specs.declared.queue.TheConstants.{QUEUE, LONG_QUEUE}
 use Rattle.ingest_session.specs.declared.line.TheConstants.{MOST_LINE}
 use Rattle.ingest_session.specs.Finished.{first_of}
 use Rattle.ingest_session.specs.Items.{fits}
@@ -23,8 +23,10 @@ pub record IsSession (s : SessionState) : Type 0 where
   pub few : s.count ≤ MOST_FILE
   pub hand : s.hand.whole ≡ false
   pub uncut : IsUncut s.hand
-  pub room : s.ended ≡ false → length s.queue + s.unseen ≤ QUEUE
-  pub most : length s.queue + s.unseen ≤ BUFFERS
+  pub least : QUEUE ≤ s.most
+  pub limit : s.most ≤ LONG_QUEUE
+  pub room : s.ended ≡ false → length s.queue + s.unseen ≤ s.most
+  pub at_end : length s.queue + s.unseen ≤ s.most + 1
   pub sized : AllByRecursion IsSized s.queue
   pub ahead : IsAhead s.ahead s.queue
   pub spelled : IsSpelled s.spelled (first_of s.line)

@@ -19,6 +19,8 @@ pub record SessionState : Type 0 where
   -- the segment whose end is still to come, and the segments that wait for their turn
   pub hand : Hand
   pub queue : List (List ℕ)
+  -- how many wait at most while the file goes on
+  pub most : ℕ
   -- the first of these as a segment, where the builder of the tree has it already
   pub ahead : Option KindSegment
   -- the finished nodes that aren't in their place, in line, and the first of them as a segment, where that was made

@@ -31,5 +31,5 @@ pub use laws::{
     seals_were_absent, steps_are_few, steps_have_pieces,
 };
 pub use line::{LONG_LINE, MOST_LINE};
-pub use queue::MOST_WAITING;
+pub use queue::{LONG_QUEUE, MOST_WAITING, QUEUE};
 pub use session::Session;

@@ -12,12 +12,14 @@ use std::collections::VecDeque;
 use std::marker::Model;
 use std::thread::Threads;
 
-/// How many segments wait at most while the file goes on.
+/// How many segments wait at most while the file goes on, in a session that is fed line by line.
 pub const QUEUE: usize = 64;
-/// The same with the rest of the file, which its end adds.
-pub(crate) const BUFFERS: usize = 65;
-/// How many segments wait at most before a caller gives a piece of up to 4,096 bytes, so that it is taken whole: at most two
-/// segments end in such a piece, since all of them but the first have 2,048 bytes or more of it.
+/// The same in a session that is fed a whole file: their digests are taken at once, and so many are worth the threads.
+pub const LONG_QUEUE: usize = 1_024;
+/// So many fewer than may wait are to wait before a caller gives a piece of up to 4,096 bytes, so that it is taken whole: at most
+/// two segments end in such a piece, since all of them but the first have 2,048 bytes or more of it.
+pub(crate) const SPARED: usize = 3;
+/// How many segments wait at most before a piece is given, in a session that is fed line by line.
 pub const MOST_WAITING: usize = 61;
 /// Where so many segments wait and the first has no digest, it pays to start threads that take all of them.
 pub(crate) const MANY: usize = 32;
@@ -25,6 +27,8 @@ pub(crate) const MANY: usize = 32;
 /// Segments in the order in which they came. It takes the memory for all of them when it is made; `hash` alone takes more.
 #[derive(Drop)]
 pub struct Queue {
+    /// How many wait at most while the file goes on; its end adds one more.
+    most: usize,
     waiting: VecDeque<Vec<u8>>,
     spare: Vec<Vec<u8>>,
     /// The digests of the first segments that wait, of as many as were taken.
@@ -32,24 +36,25 @@ pub struct Queue {
 }
 
 impl Model for Queue {
-    ghost use Rattle.std.specs.Prelude.{ℕ, List, map};
+    ghost use Rattle.std.specs.Prelude.{map};
+    ghost use Rattle.ingest_session.specs.Buffers.{Waiting};
 
-    ghost Value = { List (List ℕ) };
+    ghost Value = { Waiting };
 
-    ghost view = { λ q. map (λ b. b.items) q.waiting.items };
+    ghost view = { λ q. record { most = q.most; segments = map (λ b. b.items) q.waiting.items } };
 
     ghost use Rattle.std.specs.VecDeque.{deque_capacity};
     ghost use Rattle.ingest_session.specs.Buffers.{IsQueue};
 
-    ghost invariant = { λ q. IsQueue q.waiting.items (deque_capacity q.waiting) q.spare q.kept.items };
+    ghost invariant = { λ q. IsQueue q.most q.waiting.items (deque_capacity q.waiting) q.spare q.kept.items };
 }
 
 /// So many buffers, each with room for a segment.
-fn buffers(alloc: Global) -> Result<Vec<Vec<u8>>, AllocError>
-    ensures spare { IfOk result AreSpare }
+fn buffers(alloc: Global, count: usize) -> Result<Vec<Vec<u8>>, AllocError>
+    ensures spare { IfOk result (AreSpare count) }
 {
-    let mut spare = Vec::with_capacity(alloc, BUFFERS)?;
-    for _ in 0..BUFFERS {
+    let mut spare = Vec::with_capacity(alloc, count)?;
+    for _ in 0..count {
         spare.push_reserved(Vec::with_capacity(alloc, MOST_SEGMENT as usize)?);
     }
     Ok(spare)
@@ -67,30 +72,40 @@ fn refill(buffer: &mut Vec<u8>, bytes: &[u8])
 }
 
 impl Queue {
-    /// No segments. It fails for want of memory alone, and no later call takes any but `hash` and `first`.
-    pub fn new(alloc: Global) -> Result<Queue, AllocError>
-        ensures { IfOk result (λ q. q ≡ []) }
+    /// No segments, and room for so many, and one more. It fails for want of memory alone, and no later call takes any but `hash`
+    /// and `first`.
+    pub fn new(alloc: Global, most: usize) -> Result<Queue, AllocError>
+        requires { most ≤ LONG_QUEUE }
+        ensures { IfOk result (λ q. q ≡ record { most = most; segments = [] }) }
     {
         Ok(Queue {
-            waiting: VecDeque::with_capacity(alloc, BUFFERS)?,
-            spare: buffers(alloc)?,
+            most,
+            waiting: VecDeque::with_capacity(alloc, most + 1)?,
+            spare: buffers(alloc, most + 1)?,
             kept: VecDeque::new(alloc),
         })
     }
 
     /// How many segments wait.
     pub fn len(&self) -> usize
-        ensures value { result ≡ length self.now }
-        ensures at_most { length self.now ≤ BUFFERS }
+        ensures value { result ≡ length self.now.segments }
+        ensures at_most { length self.now.segments ≤ self.now.most + 1 }
     {
         self.waiting.len()
     }
 
+    /// How many wait at most while the file goes on.
+    pub fn most(&self) -> usize
+        ensures { result ≡ self.now.most }
+    {
+        self.most
+    }
+
     /// Adds a segment at the end.
     pub fn push(&mut self, segment: &[u8])
-        requires room { length self.old < BUFFERS }
+        requires room { length self.old.segments ≤ self.old.most }
         requires at_most { length segment.now ≤ MOST_SEGMENT }
-        ensures { self.new ≡ self.old ++ segment.now ∷ [] }
+        ensures { self.new ≡ record self.old { segments = self.old.segments ++ segment.now ∷ [] } }
     {
         match self.spare.pop() {
             Some(buffer) => {
@@ -104,8 +119,8 @@ impl Queue {
 
     /// The bytes of the first segment.
     fn front(&self) -> &[u8]
-        requires { 0 < length self.now }
-        ensures first { self.now ≡ result.now ∷ drop 1 self.now }
+        requires { 0 < length self.now.segments }
+        ensures first { self.now.segments ≡ result.now ∷ drop 1 self.now.segments }
         ensures at_most { length result.now ≤ MOST_SEGMENT }
     {
         self.waiting[0].as_slice()
@@ -113,8 +128,8 @@ impl Queue {
 
     /// The first segment with its digest, which is taken here where it wasn't before. It fails for want of memory alone.
     pub fn first(&self, alloc: Global) -> Result<Seg, AllocError>
-        requires { 0 < length self.now }
-        ensures { IfOk result (λ seg. front_of self.now ≡ Some seg) }
+        requires { 0 < length self.now.segments }
+        ensures { IfOk result (λ seg. front_of self.now.segments ≡ Some seg) }
     {
         match self.kept.front() {
             Some(digest) => Seg::leaf_with_digest(alloc, self.front(), *digest),
@@ -124,7 +139,7 @@ impl Queue {
 
     /// Whether the first segment has no digest yet, and so many wait that it pays to start threads.
     pub fn hash_pays(&self) -> bool
-        ensures { IsTrue result → MANY ≤ length self.now }
+        ensures { IsTrue result → MANY ≤ length self.now.segments }
     {
         self.kept.is_empty() && self.waiting.len() >= MANY
     }
@@ -141,8 +156,8 @@ impl Queue {
 
     /// Takes the first segment away.
     pub fn pop(&mut self)
-        requires { 0 < length self.old }
-        ensures { self.new ≡ drop 1 self.old }
+        requires { 0 < length self.old.segments }
+        ensures { self.new ≡ record self.old { segments = drop 1 self.old.segments } }
     {
         let _ = self.kept.pop_front();
         match self.waiting.pop_front() {

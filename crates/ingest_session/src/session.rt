@@ -3,7 +3,7 @@ ghost use Rattle.std.specs.Prelude.{◌≡◌, ◌+◌, ◌*◌, ◌<◌, ◌≤
 
 use crate::aside::Aside;
 use crate::line::Line;
-use crate::queue::{MANY, MOST_WAITING, QUEUE, Queue};
+use crate::queue::{LONG_QUEUE, MANY, QUEUE, Queue, SPARED};
 use container_meta::{Kind, OpenContainer, Seg};
 use disk_format::{LEAST_SEGMENT, MOST_FILE};
 use merkle_file::{Top, TreeBuilder};
@@ -15,8 +15,8 @@ use std::thread::Threads;
 
 /// The bytes of a file as they come, and what of them the store is still to hold.
 ///
-/// It takes the memory of its queue and of two open containers when it is made; that of the nodes that wait comes with them, and so
-/// does that of containers that are set aside, at most 16: 4.2 MB in all.
+/// It takes the memory of its queue, 16,384 bytes a segment, and of two open containers when it is made; that of the nodes that wait
+/// comes with them, and so does that of containers that are set aside, at most 16: 4.2 MB in all.
 #[derive(Drop)]
 pub struct Session {
     pub(crate) alloc: Global,
@@ -58,7 +58,8 @@ impl Model for Session {
       count = s.count;
       ended = s.ended;
       hand = s.cutter;
-      queue = s.queue;
+      queue = s.queue.segments;
+      most = s.queue.most;
       ahead = s.ahead;
       line = s.line;
       spelled = s.spelled;
@@ -76,7 +77,8 @@ impl Model for Session {
       count = s.count;
       ended = s.ended;
       hand = s.cutter;
-      queue = s.queue;
+      queue = s.queue.segments;
+      most = s.queue.most;
       ahead = s.ahead;
       line = s.line;
       spelled = s.spelled;
@@ -95,19 +97,25 @@ impl Session {
     ghost use Rattle.ingest_session.specs.History.{History, HasHistory, IsBegun, no_history};
     ghost use Rattle.ingest_session.specs.Calls.{IsTaking, IsPushAnswer};
     ghost use Rattle.ingest_session.specs.Cuts.{CutsOne};
+    ghost use Rattle.ingest_session.specs.Settling.{most_waiting, seen};
     ghost use Rattle.ingest_session.specs.Sound.{IsSession};
+    ghost use Rattle.ingest_session.specs.declared.queue.TheConstants.{MOST_WAITING};
 
-    /// A session that was given nothing. It fails for want of memory alone.
-    pub fn new(alloc: Global) -> Result<Session, AllocError>
+    /// A session that was given nothing. So many segments wait at most while the file goes on: `QUEUE`, or up to `LONG_QUEUE` where
+    /// `hash` is called. It fails for want of memory alone.
+    pub fn new(alloc: Global, most: usize) -> Result<Session, AllocError>
+        requires least { QUEUE ≤ most }
+        requires limit { most ≤ LONG_QUEUE }
         ensures begun { IfOk result IsBegun }
         ensures history { IfOk result (λ s. HasHistory s no_history) }
+        ensures most { IfOk result (λ s. s.most ≡ most) }
     {
         let session = Session {
             alloc,
             count: 0,
             ended: false,
             cutter: Cutter::new(alloc)?,
-            queue: Queue::new(alloc)?,
+            queue: Queue::new(alloc, most)?,
             ahead: None,
             line: Line::new(alloc)?,
             spelled: None,
@@ -134,7 +142,7 @@ impl Session {
     /// Takes bytes up to the end of the segment in hand, which then waits for its turn, and says how many.
     fn take_piece(&mut self, bytes: &[u8]) -> usize
         requires ongoing { self.old.ended ≡ false }
-        requires room { length self.old.queue + self.old.unseen < QUEUE }
+        requires room { length self.old.queue + self.old.unseen < self.old.most }
         requires some { 0 < length bytes.now }
         requires few { self.old.count + length bytes.now ≤ MOST_FILE }
         ensures some { 0 < result }
@@ -152,15 +160,15 @@ impl Session {
         step.taken
     }
 
-    /// Takes the next bytes of the file, and says how many of them. These are fewer than all only where `queued` is 64
-    /// then. It takes no memory, and refuses after `finish`, and where the file would be longer than a file may be.
+    /// Takes the next bytes of the file, and says how many of them. These are fewer than all only where as many segments wait then as
+    /// may. It takes no memory, and refuses after `finish`, and where the file would be longer than a file may be.
     pub fn push(&mut self, bytes: &[u8]) -> Result<usize, Refusal>
         ensures refusal { IsPushAnswer self.old (length bytes.now) result }
         ensures err { OnErr result (self.new ≡ self.old) }
-        ensures all { IfOk result (λ n. n < length bytes.now → QUEUE ≤ length self.new.queue + self.new.unseen) }
-        ensures some { IfOk result (λ n. 0 < length bytes.now → length self.old.queue + self.old.unseen < QUEUE → 0 < n) }
+        ensures all { IfOk result (λ n. n < length bytes.now → self.new.most ≤ length self.new.queue + self.new.unseen) }
+        ensures some { IfOk result (λ n. 0 < length bytes.now → length self.old.queue + self.old.unseen < self.old.most → 0 < n) }
         // A caller who made room knows that a short piece is taken whole.
-        ensures whole { IfOk result (λ n. length self.old.queue + self.old.unseen ≤ MOST_WAITING
+        ensures whole { IfOk result (λ n. seen self.old ≤ most_waiting self.old
             → length bytes.now ≤ 2 * LEAST_SEGMENT → n ≡ length bytes.now) }
         ensures takes { IfOk result (λ n. IsTaking (take n bytes.now) self.old self.new) }
         ensures history { IfOk result (λ n. (h : History) → HasHistory self.old h
@@ -175,7 +183,7 @@ impl Session {
             return Err(Refusal::TooLong);
         }
         let mut taken = 0;
-        while taken < bytes.len() && self.queued() < QUEUE {
+        while taken < bytes.len() && self.queued() < self.queue.most() {
             let (_, rest) = bytes.split_at(taken);
             taken += self.take_piece(rest);
         }
@@ -203,6 +211,14 @@ impl Session {
         ensures { result ≡ length self.now.queue + self.now.unseen }
     {
         self.queue.len() + self.unseen
+    }
+
+    /// How many segments wait at most before a caller gives a piece of up to 4,096 bytes, so that it is taken whole.
+    pub fn most_waiting(&self) -> usize
+        ensures value { result ≡ most_waiting self.now }
+        ensures least { MOST_WAITING ≤ result }
+    {
+        self.queue.most() - SPARED
     }
 
     /// Whether it pays to call `hash` before `due`: the first segment of the queue has no digest yet, and 32 or more wait.

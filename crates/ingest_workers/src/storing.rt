@@ -6,7 +6,7 @@ ghost use Rattle.ingest_workers.specs.Working.{Commits, Fills};
 
 use crate::job::Job;
 use actor_parts::{Actor, SegBuf, Step, StoreCalls};
-use ingest_session::Session;
+use ingest_session::{QUEUE, Session};
 use load_stream::LoadStream;
 use namespace::Root;
 use refusals::Refusal;
@@ -77,7 +77,7 @@ pub(crate) fn store<S: StoreCalls>(
 ) -> Result<Root, Refusal>
     ensures { AskedFrom S.asks caller.old (IsStored (file_of job.now) name.now result) caller.new }
 {
-    let mut session = Session::new(alloc)?;
+    let mut session = Session::new(alloc, QUEUE)?;
     caller.make(own(), Step::Begin, buf)?;
     match give(caller, &mut session, job, name, buf) {
         Ok(root) => Ok(root),

@@ -6,7 +6,7 @@ ghost use Rattle.ingest_session.specs.Told.{IsSettled, IsAnswerFor};
 use crate::nodes::add_top;
 use actor_parts::Answer;
 use container_meta::{Kind, OpenContainer, Seg};
-use ingest_session::{Due, Session};
+use ingest_session::{Due, QUEUE, Session};
 use merkle_file::Top;
 use refusals::{PartKind, Refusal};
 use std::alloc::Global;
@@ -30,7 +30,7 @@ struct Steps {
 /// the last of them on and on. Its seals are answered as sealed: all that are offered, or the first where there is the word `one`.
 pub(crate) fn session(alloc: Global, row: &str) -> Result<String, Fault> {
     let (words, chain) = row.split_once(" : ").ok_or(Fault::Line)?;
-    let mut session = Session::new(alloc)?;
+    let mut session = Session::new(alloc, QUEUE)?;
     calls(alloc, &mut session, words, chain)
 }
 

@@ -67,8 +67,10 @@ module _ (s : SessionState) (sound : IsSession s) (nothing : due_in s ≡ Nothin
     few = sound.few;
     hand = sound.hand;
     uncut = sound.uncut;
+    least = sound.least;
+    limit = sound.limit;
     room = sound.room;
-    most = sound.most;
+    at_end = sound.at_end;
     sized = sound.sized;
     ahead = sound.ahead;
     spelled = sound.spelled;

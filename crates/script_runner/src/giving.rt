@@ -11,7 +11,7 @@ ghost use Rattle.script_runner.specs.Runner.{runner_of};
 
 use crate::sessions::Sessions;
 use actor_parts::{Actor, Answer, SegBuf, Step};
-use ingest_session::Session;
+use ingest_session::{QUEUE, Session};
 use namespace::Root;
 use refusals::Refusal;
 use script_lines::{Reply, Turned, decode_into, print_reply};
@@ -31,7 +31,7 @@ pub(crate) fn begin<C: HasState>(
     ensures begins { Begins C C.state actor result sessions.old sessions.new core.old core.new }
     ensures running { IsRunning (C.state core.new) }
 {
-    let session = Session::new(alloc)?;
+    let session = Session::new(alloc, QUEUE)?;
     core.make_step(actor, Step::Begin, buf)?;
     sessions.set(actor, Some(session));
     Ok(())

@@ -2,7 +2,7 @@
 ghost use Rattle.std.specs.Prelude.{◌≡◌, ◌≢◌, ◌+◌, ◌≤◌, ◌<◌, length, None, IfOk, OnErr, OnOk};
 ghost use Rattle.disk_format.specs.declared.numbers.TheConstants.{MOST_FILE};
 ghost use Rattle.ingest_session.specs.Due.{due_in};
-ghost use Rattle.ingest_session.specs.Settling.{seen};
+ghost use Rattle.ingest_session.specs.Settling.{most_waiting, seen};
 ghost use Rattle.ingest_session.specs.Work.{to_do};
 ghost use Rattle.ingest_session.specs.Told.{IsAnswerFor, IsSettled};
 ghost use Rattle.session_turns.specs.Turning.{AskedFor, FeedsBy, MakesRoomBy, TakesTurnBy, TakesTurnsBy, does, maker_of, session_at};
@@ -10,7 +10,7 @@ ghost use Rattle.session_turns.specs.Turning.{AskedFor, FeedsBy, MakesRoomBy, Ta
 use crate::maker::MakesSteps;
 use actor_parts::{Actor, Answer, SegBuf, Step};
 use disk_format::LEAST_SEGMENT;
-use ingest_session::{Due, MOST_WAITING, Session};
+use ingest_session::{Due, Session};
 use refusals::Refusal;
 
 /// How many bytes are given to a session at once, at most: so few that a session where room was made takes them all.
@@ -78,12 +78,12 @@ pub fn make_room<C: MakesSteps>(
 ) -> Result<(), Refusal>
     requires { C.runs core.old }
     ensures turns { MakesRoomBy (maker_of C.runs C.makes) actor result session.old session.new core.old core.new }
-    ensures room { OnOk result (seen session.new ≤ MOST_WAITING) }
+    ensures room { OnOk result (seen session.new ≤ most_waiting session.new) }
     ensures ended { session.new.ended ≡ session.old.ended }
     ensures count { session.new.count ≡ session.old.count }
     ensures running { C.runs core.new }
 {
-    while session.queued() > MOST_WAITING {
+    while session.queued() > session.most_waiting() {
         if make_turn(core, actor, session, buf)?.is_none() {
             return Ok(());
         }

@@ -54,8 +54,8 @@ returns-in-Err g c =
           (later_back _ _ (view c.args.disk.now) w (sym (rest_same _ _ _ _ later.loans_are)) later);
     }
 
-pub store_source-stored-requires : goal.store_source-stored-requires
-store_source-stored-requires g c = record { fresh = opened_fresh _ _ _ _ c.in-Ok.ensures.opened c.in-Ok.ensures.running }
+pub store_source-stored-requires-clause-fresh : goal.store_source-stored-requires-clause-fresh
+store_source-stored-requires-clause-fresh g c κs outlives = opened_fresh _ _ _ _ c.in-Ok.ensures.opened c.in-Ok.ensures.running
 
 -- it was
 pub returns : goal.returns

@@ -15,7 +15,9 @@ returns-in_default-clause-fills g c = fill_failed _ g.C.HasState.state _ _ _ _ _
 pub returns-then-count-eq0-clause-fills : goal.returns-then-count-eq0-clause-fills
 returns-then-count-eq0-clause-fills g c =
     let read = c.in-Ok.ensures in
-    fill_ended _ g.C.HasState.state _ _ _ _ _ _ c.loop-count.invariant.so_far _ _ _ read.bytes read.cause.done c.if-count-eq0.true (read.end c.if-count-eq0.true (search rules))
+    rw c.hash.ensures
+    (fill_ended _ g.C.HasState.state _ _ _ _ _ _ c.loop-count.invariant.so_far _ _ _ read.bytes read.cause.done c.if-count-eq0.true
+    (read.end c.if-count-eq0.true (search rules)))
 
 pub loop-count-preserved : goal.loop-count-preserved
 loop-count-preserved g c =
@@ -23,9 +25,9 @@ loop-count-preserved g c =
     let fed = c.in_ok-feed.ensures in
     record {
       running = fed.running;
-      ongoing = fed.ended ∙ c.loop-count.invariant.ongoing;
-      so_far = fill_on _ g.C.HasState.state _ _ _ _ _ _ c.loop-count.invariant.so_far _ _ _ read.bytes read.cause.done c.sessions_have_laws.ensures c.can_be_pushed.ensures _
-          c.first.ensures _ _ fed.feeds fed.ended;
+      ongoing = rw c.hash_full.ensures (fed.ended ∙ c.loop-count.invariant.ongoing);
+      so_far = rw c.hash_full.ensures (fill_on _ g.C.HasState.state _ _ _ _ _ _ c.loop-count.invariant.so_far _ _ _ read.bytes read.cause.done c.sessions_have_laws.ensures c.can_be_pushed.ensures _
+          c.first.ensures _ _ fed.feeds fed.ended);
     }
 
 pub returns-in_err-feed-clause-fills : goal.returns-in_err-feed-clause-fills

@@ -1,7 +1,7 @@
 use Rattle.backup_engine.proofs.Prelude.{◌≡◌, sym, ◌∙◌, ap, [], Option, Some, option_map, refl, Single, Check, TableLine, command_value, ending_in}
 use Rattle.backup_engine.specs.Line.{Run, Work}
 use Rattle.backup_engine.specs.LineValue.{line_value, load_value}
-use Rattle.backup_engine.proofs.TopCall.{keeps_line, line_as, memory_promise, promise_as, words_promise}
+use Rattle.backup_engine.proofs.TopCall.{alone_as, keeps_line, line_as, memory_promise, promise_as, words_promise}
 use Rattle.backup_engine.proofs.top_call.backup.Goals as goal
 
 pub returns-in-Ok-None-clause-promise : goal.returns-in-Ok-None-clause-promise
@@ -16,31 +16,17 @@ returns-in-Err-clause-promise g c =
     memory_promise _ g.D.Disk.view c.give_up-in-Err.result (g.D.Disk.view c.args.disk.now) (g.S.Source.view c.args.source.now) (g.K.Sink.view c.args.sink.now)
     (g.Q.Sink.view c.args.notes.now) (g.Q.Sink.view c.give_up-in-Err.new.notes) c.reads_tell_scripts.ensures c.give_up-in-Err.ensures.status c.give_up-in-Err.ensures.noted _
 
-pub returns-in-Single-clause-promise : goal.returns-in-Single-clause-promise
-returns-in-Single-clause-promise g c =
-    let line_is = line_as c.in-Ok-Some.ensures.line c.in-Ok-Some.field-0-is c.in-Single.is in
-    promise_as _ g.D.Disk.view _ (Some (Single (command_value c.in-Single.command))) c.conclude.result _ line_is
-    (keeps_line _ g.D.Disk.view (Single (command_value c.in-Single.command)) c.conclude.result (ending_in c.run_command.result) _ _ _ _ _ _ _ _
-    c.conclude.ensures.status c.conclude.ensures.noted c.run_command.ensures.does)
-
-pub returns-in-Run-clause-promise : goal.returns-in-Run-clause-promise
-returns-in-Run-clause-promise g c =
-    let line_is = line_as c.in-Ok-Some.ensures.line c.in-Ok-Some.field-0-is c.in-Run.is in
-    promise_as _ g.D.Disk.view _ (Some Run) c.conclude-in-Run.result _ line_is
-    (keeps_line _ g.D.Disk.view Run c.conclude-in-Run.result (ending_in c.run.result) _ _ _ _ _ _ _ _
-    c.conclude-in-Run.ensures.status c.conclude-in-Run.ensures.noted ([], c.run.ensures.runs))
-
--- the disk is inspected
-pub returns-in-Check-clause-promise : goal.returns-in-Check-clause-promise
-returns-in-Check-clause-promise g c =
-    let line_is = line_as c.in-Ok-Some.ensures.line c.in-Ok-Some.field-0-is c.in-Check.is in
-    promise_as _ g.D.Disk.view _ (Some Check) c.check_disk.result _ line_is (c.check_disk.ensures.checks (g.S.Source.view c.args.source.now))
+-- a line that starts no workers
+pub returns-in_default-clause-promise : goal.returns-in_default-clause-promise
+returns-in_default-clause-promise g c =
+    let line_is = sym c.in-Ok-Some.ensures.line ∙ ap (option_map line_value) c.in-Ok-Some.field-0-is in
+    promise_as _ g.D.Disk.view _ _ c.run_alone.result _ (line_is ∙ sym (alone_as _ c.in_default.not-Work)) c.run_alone.ensures.promise
 
 -- workers are run
 pub returns-in-Work-clause-promise : goal.returns-in-Work-clause-promise
 returns-in-Work-clause-promise g c =
     let line_is = line_as c.in-Ok-Some.ensures.line c.in-Ok-Some.field-0-is c.in-Work.is in
     let done = c.work.ensures.does (g.S.Source.view c.args.source.now) in
-    promise_as _ g.D.Disk.view _ (Some (Work (load_value c.in-Work.load))) c.conclude-in-Work.result _ line_is
-    (keeps_line _ g.D.Disk.view (Work (load_value c.in-Work.load)) c.conclude-in-Work.result (ending_in c.work.result) _ _ _ _ _ _ _ _
-    c.conclude-in-Work.ensures.status c.conclude-in-Work.ensures.noted ([], ([], (done.0, (done.1, refl)))))
+    promise_as _ g.D.Disk.view _ (Some (Work (load_value c.in-Work.load))) c.conclude.result _ line_is
+    (keeps_line _ g.D.Disk.view (Work (load_value c.in-Work.load)) c.conclude.result (ending_in c.work.result) _ _ _ _ _ _ _ _
+    c.conclude.ensures.status c.conclude.ensures.noted ([], ([], (done.0, (done.1, refl)))))

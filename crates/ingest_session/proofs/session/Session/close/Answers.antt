@@ -8,7 +8,7 @@ returns-clause-ok c =
     let none : c.self.inside.top ≡ None = search rules in
     let ended : c.self.inside.ended ≡ true = search rules in
     let some : IsSome c.self.inside.ahead = search rules in
-    let one : length c.self.inside.queue ≡ 1 = search rules in
+    let one : length c.self.inside.queue.segments ≡ 1 = search rules in
     inr (rw (← c.self.view_is)
     (is_closing (the_view c.self.inside) c.in_ok-top.top c.finish.new.self none ended some one
     (record {

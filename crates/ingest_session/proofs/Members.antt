@@ -1,5 +1,5 @@
 -- Elements of lists, and the pieces that are in their place.
-use Rattle.ingest_session.proofs.Prelude.{◌≡◌, ◌⊎◌, ◌∙◌, ℕ, zero, suc, Bool, true, false, ◌+◌, List, [], ◌∷◌, ◌++◌, Some, map, length, inl, inr, refl, sym, ap, subst, arith, and_parts, or_left, or_right, AllByRecursion, list_any, option_to_list, ◌==◌, Kind, Contents, Segment, has_key, segment_key, Piece, Data, Node, piece_segment, item_kind, data_in, nodes_in, turn_of, item_of}
+use Rattle.ingest_session.proofs.Prelude.{◌≡◌, ◌⊎◌, ◌∙◌, ℕ, zero, suc, Bool, true, false, ◌+◌, List, [], ◌∷◌, ◌++◌, Some, map, inl, inr, refl, sym, ap, subst, and_parts, or_left, or_right, AllByRecursion, list_any, ◌==◌, Kind, Contents, Segment, has_key, segment_key, Piece, Data, Node, piece_segment, item_kind, data_in, nodes_in, turn_of, item_of}
 use Rattle.std.proofs.Common.{slice_get}
 use Rattle.std.proofs.lemmas.Bool.{eqb-true, or_cases, or_parts}
 use Rattle.std.proofs.lemmas.Option.{same_Some}
@@ -138,11 +138,6 @@ nodes_append [] qs = refl
 nodes_append (Data bytes ∷ ps) qs = nodes_append ps qs
 nodes_append (Node n ∷ ps) qs = ap (λ (ns : List node.Contents). n ∷ ns) (nodes_append ps qs)
 
-pub parts_count : (ps : List Piece) → length ps ≡ length (data_in ps) + length (nodes_in ps)
-parts_count [] = refl
-parts_count (Data bytes ∷ ps) = let others = parts_count ps in omega (arith, others)
-parts_count (Node n ∷ ps) = let others = parts_count ps in omega (arith, others)
-
 data_at : (ps : List Piece) (index : ℕ) (bytes : List ℕ) → slice_get (data_in ps) index ≡ Some bytes → IsIn (Data bytes) ps
 data_at [] index bytes is = absurd (cc)
 data_at (Data x ∷ ps) zero bytes is = (0, ap (λ (b : List ℕ). Some (Data b)) (same_Some x bytes is))
@@ -189,8 +184,3 @@ pub turn_is : (n : Option node.Contents) (queue : List (List ℕ)) (p : Piece) �
 turn_is (Some n) queue p is = ap piece_segment (in_one (Node n) p is)
 turn_is None [] p is = absurd (in_none p is)
 turn_is None (x ∷ xs) p is = ap piece_segment (in_one (Data x) p is)
-
-pub turn_nodes : (n : Option node.Contents) (queue : List (List ℕ)) → nodes_in (turn_of n queue) ≡ option_to_list n
-turn_nodes (Some n) queue = refl
-turn_nodes None [] = refl
-turn_nodes None (x ∷ xs) = refl

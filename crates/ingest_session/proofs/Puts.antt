@@ -1,11 +1,10 @@
 -- Where the open container of data is to be set aside.
-use Rattle.ingest_session.proofs.Prelude.{◌≡◌, ◌≤◌, ◌<◌, ◌+◌, ℕ, zero, suc, Bool, true, false, List, [], ◌∷◌, ◌++◌, Some, length, length-append, drop, refl, ap, sym, ◌∙◌, and_parts, arith, AllByRecursion, Kind, Leaf, Tree, Contents, KindSegment, Segment, Due, Claim, Seal, Nothing, due_in, due_node, item_due, item_is_there, item_kind, puts_aside, seals_data, HasItem, IsAhead, IsPlaced, IsSession, SessionState, absent_item, added_item, emptied, fits, placed_item, put_aside, set_aside, turn_node, with_open}
-use Rattle.std.proofs.Common.{◌==◌, if◌then◌else◌, length-drop, not, Option, None}
+use Rattle.ingest_session.proofs.Prelude.{◌≡◌, ◌≤◌, ◌<◌, ◌+◌, ℕ, Bool, true, false, List, [], ◌∷◌, ◌++◌, Some, length, length-append, drop, refl, ap, sym, ◌∙◌, and_parts, arith, Kind, Leaf, Tree, Contents, KindSegment, Segment, Due, Claim, Seal, Nothing, due_in, due_node, item_due, item_is_there, item_kind, puts_aside, seals_data, HasItem, IsAhead, IsPlaced, IsSession, SessionState, absent_item, added_item, fits, placed_item, put_aside, set_aside, turn_node, with_open}
+use Rattle.std.proofs.Common.{◌==◌, if◌then◌else◌, not, Option, None}
 use Rattle.std.proofs.lemmas.Bool.Decides.{nat_tests}
 use Rattle.std.specs.Prelude.{◌&&◌, nat_lt}
 use Rattle.actor_parts.specs.declared.step.TheConstants.{MOST_TOGETHER}
 use Rattle.merkle_file.specs.Node as node
-use Rattle.ingest_session.specs.Due.{item_is_open, queue_is_open}
 use Rattle.ingest_session.specs.Settling.{seen}
 use Rattle.ingest_session.specs.Sound.{IsAside}
 use Rattle.ingest_session.proofs.Lists.{all_and_one}
@@ -46,15 +45,6 @@ waits_front s false off so due = absurd (cc)
 pub puts_front : (s : SessionState) → puts_aside s ≡ true → s.waits ≡ true → turn_node s ≡ None
 puts_front s puts on = waits_front s s.waits refl on (puts_seal s puts)
 
-waits_tree : (n : Option node.Contents) → Seal (item_kind n) ≡ Seal Tree → (m : node.Contents) × (n ≡ Some m)
-waits_tree None is = absurd (cc)
-waits_tree (Some n) is = (n, refl)
-
-pub waits_node : (s : SessionState) (waits : Bool) → s.waits ≡ waits → waits ≡ true → due_in s ≡ Seal Tree → (m : node.Contents) × (turn_node s ≡ Some m)
-waits_node s true on so due =
-    waits_tree (turn_node s) (sym (ap (λ (w : Bool). if w then Seal (item_kind (turn_node s)) else item_due s (due_node s)) on) ∙ due)
-waits_node s false off so due = absurd (cc)
-
 -- ---- an item that waits needs a step
 
 pub waiting_is_placed : (s : SessionState) → IsSession s → s.waits ≡ true → IsPlaced s
@@ -67,19 +57,6 @@ waiting_is_placed s is on = record {
 }
 
 -- ---- what is done then
-
--- an empty container lacks the key of the item
-queue_not_put : (s : SessionState) (queue : List (List ℕ)) → queue_is_open (record (put_aside s) { waits = false }) queue ≡ false
-queue_not_put s [] = refl
-queue_not_put s (x ∷ xs) = refl
-
-pub front_not_put : (s : SessionState) (n : Option node.Contents) → n ≡ None → item_is_open (record (put_aside s) { waits = false }) n ≡ false
-front_not_put s None none = queue_not_put s s.queue
-front_not_put s (Some n) none = absurd (cc)
-
-pub node_not_put : (s : SessionState) (n : Option node.Contents) (m : node.Contents) → n ≡ Some m → item_is_open (record (emptied s) { waits = false }) n ≡ false
-node_not_put s (Some n) m some = refl
-node_not_put s None m some = absurd (cc)
 
 pub put_is_session : (s : SessionState) (empty : Contents) (aside : List Contents) → IsSession s → empty ≡ record { kind = Leaf; segments = [] } →
     aside ≡ s.aside ++ s.leaves ∷ [] → puts_aside s ≡ true → IsSession (record s { leaves = empty; aside = aside; waits = false })
@@ -111,48 +88,6 @@ put_is_session s empty aside is empty_is aside_is puts =
       waits = λ on. absurd (cc);
       full = λ on. absurd (cc);
     })
-
--- an empty container of data in place of the open one
-pub put_as : (s : SessionState) (empty : Contents) (aside : List Contents) → IsSession s → empty ≡ record { kind = Leaf; segments = [] } →
-    aside ≡ s.aside ++ s.leaves ∷ [] → record s { leaves = empty; aside = aside; waits = false } ≡ record (put_aside s) { waits = false }
-put_as s empty aside is empty_is aside_is =
-    ap (λ (c : Contents). record s { leaves = c; aside = aside; waits = false })
-    (empty_is ∙ ap (λ (k : Kind). let c : Contents = record { kind = k; segments = [] } in c) (sym is.data_kind))
-    ∙ ap (λ (cs : List Contents). record s { leaves = record s.leaves { segments = [] }; aside = cs; waits = false }) aside_is
-
-all_dropped : {X : Type 0} (P : X → Type 0) (count : ℕ) (xs : List X) → AllByRecursion P xs → AllByRecursion P (drop count xs)
-all_dropped P zero xs all = all
-all_dropped P (suc n) [] all = tt
-all_dropped P (suc n) (x ∷ xs) all = all_dropped P n xs all.1
-
-pub left_is_session : (s : SessionState) (count : ℕ) → IsSession s → IsSession (record s { aside = drop count s.aside })
-left_is_session s count is =
-    let left = length-drop count s.aside in
-    let few = is.together in
-    record {
-      data_kind = is.data_kind;
-      tree_kind = is.tree_kind;
-      few = is.few;
-      hand = is.hand;
-      uncut = is.uncut;
-      room = is.room;
-      least = is.least;
-      limit = is.limit;
-      at_end = is.at_end;
-      sized = is.sized;
-      ahead = is.ahead;
-      spelled = is.spelled;
-      building = record { bytes = is.building.bytes; long = is.building.long; counted = is.building.counted };
-      whole = is.whole;
-      closed = is.closed;
-      next = is.next;
-      line = is.line;
-      nodes_right = is.nodes_right;
-      aside = all_dropped IsAside count s.aside is.aside;
-      together = omega (arith, left, few);
-      waits = is.waits;
-      full = is.full;
-    }
 
 -- ---- how many segments are seen to wait
 

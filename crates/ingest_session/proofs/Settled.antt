@@ -47,6 +47,7 @@ pub keeps_on : (first second third : SessionState) → KeepsOpen first second �
 keeps_on first second third one two = record {
   count = two.count ∙ one.count;
   ended = two.ended ∙ one.ended;
+  most = two.most ∙ one.most;
   unsealed = λ kind. two.unsealed kind ∙ one.unsealed kind;
   item = λ on.
       let after = two.item on in
@@ -79,6 +80,7 @@ step_keeps : (s t : SessionState) → SettleStep s t → KeepsOpen s t
 step_keeps s t step = record {
   count = count step;
   ended = ended step;
+  most = most step;
   unsealed = λ kind. step_unsealed kind s t step;
   item = step_waits s t step;
 }
@@ -101,8 +103,17 @@ step_keeps s t step = record {
     ended (PlacedFront old new none right empty is) = ap (λ (u : SessionState). u.ended) is
     ended (SetAside old new sound some right puts is) = ap (λ (u : SessionState). u.ended) is ∙ (set_apart old).ended
 
+    most : SettleStep s t → t.most ≡ s.most
+    most (Turned old new off is) = ap (λ (u : SessionState). u.most) is
+    most (Spelled old new is) = ap (λ (u : SessionState). u.most) is
+    most (Advanced old new is) = ap (λ (u : SessionState). u.most) is.others
+    most (Closed old new is) = ap (λ (u : SessionState). u.most) is.others
+    most (PlacedNode old new none right some is) = ap (λ (u : SessionState). u.most) is
+    most (PlacedFront old new none right empty is) = ap (λ (u : SessionState). u.most) is
+    most (SetAside old new sound some right puts is) = ap (λ (u : SessionState). u.most) is ∙ (set_apart old).most
+
 pub settling_keeps : (s t : SessionState) → Settles s t → KeepsOpen s t
-settling_keeps s t (Stays r) = record { count = refl; ended = refl; unsealed = λ kind. refl; item = λ on. (on, refl, refl) }
+settling_keeps s t (Stays r) = record { count = refl; ended = refl; most = refl; unsealed = λ kind. refl; item = λ on. (on, refl, refl) }
 settling_keeps s t (Then first second third settles is step) =
     keeps_on first second third (settling_keeps first second settles) (step_keeps second third step)
 
@@ -112,6 +123,7 @@ asking_keeps s t u settles asked =
     (record {
       count = ap (λ (x : SessionState). x.count) asked;
       ended = ap (λ (x : SessionState). x.ended) asked;
+      most = ap (λ (x : SessionState). x.most) asked;
       unsealed = λ kind. unsealed_asked kind;
       item = λ on. (
         sym (ap (λ (x : SessionState). x.waits) asked) ∙ on,

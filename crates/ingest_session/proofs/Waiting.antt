@@ -2,11 +2,11 @@
 use Rattle.ingest_session.proofs.Prelude.{◌≡◌, ◌∙◌, Bool, true, false, List, [], ◌∷◌, ◌++◌, Some, ℕ, drop, refl, sym, ap, subst, Kind, Leaf, Tree, Contents, KindSegment, has_key, Answer, Held, Absent, Sealed, child_kind, leaf_key, node_key, Due, Claim, Seal, Nothing, HasTurn, due_in, due_node, end_due, gathered, item_due, item_is_there, item_kind, queue_due, History, HasHistory, Pushed, Ended, Moved, Asked, Told, fits, SettleStep, Turned, Spelled, Advanced, Closed, PlacedNode, PlacedFront, SetAside, IsSession, SessionState, HasItem, IsAhead, node_in_turn, turn_node, IsAnswerFor, IsSettled, absent_item, added_item, emptied, placed_item, put_aside, set_aside, told_by}
 use Rattle.std.proofs.Common.{if◌then◌else◌, Option, None}
 use Rattle.merkle_file.specs.Node as node
-use Rattle.ingest_session.specs.Due.{child_is_open, item_is_held, item_is_open, queue_has_key, queue_is_open}
+use Rattle.ingest_session.specs.Due.{child_is_open, item_is_held, queue_has_key}
 use Rattle.ingest_session.specs.Facts.{WaitsForAnother}
 use Rattle.ingest_session.specs.History.{Begun}
 use Rattle.ingest_session.specs.Told.{sealed_by}
-use Rattle.ingest_session.proofs.Gathered.{gathered_put, gathered_same, gathered_waits, key_left, key_open}
+use Rattle.ingest_session.proofs.Gathered.{gathered_put, gathered_same, gathered_waits, key_left}
 use Rattle.ingest_session.proofs.Sealing.{claims_off, no_step_off, waits_placed, waits_with}
 
 pub session_of : (s : SessionState) (h : History) → HasHistory s h → IsSession s
@@ -89,18 +89,6 @@ pub waiting_has_turn : (s : SessionState) → IsSession s → s.waits ≡ true �
 waiting_has_turn s is on = has_turn (turn_node s) s.spelled s.ahead s.queue (is.waits on).0 is.ahead
 
 -- ---- the key of an item
-
--- its open container lacks it, too
-queue_not_open : (s : SessionState) (queue : List (List ℕ)) → queue_has_key s queue ≡ false → queue_is_open s queue ≡ false
-queue_not_open s [] none = refl
-queue_not_open s (x ∷ xs) none = key_open s (leaf_key x) none
-
-pub not_open : (s : SessionState) (n : Option node.Contents) → item_is_held s n ≡ false → item_is_open s n ≡ false
-not_open s (Some n) none = none
-not_open s None none = queue_not_open s s.queue none
-
-pub claimed_not_open : (s : SessionState) → IsSettled s → due_in s ≡ Claim → item_is_open s (turn_node s) ≡ false
-claimed_not_open s settled due = not_open s (turn_node s) (claimed_unheld s settled due)
 
 queue_key_same : (s t : SessionState) (queue : List (List ℕ)) → gathered t Leaf ≡ gathered s Leaf → queue_has_key t queue ≡ queue_has_key s queue
 queue_key_same s t [] same = refl

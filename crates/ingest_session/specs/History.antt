@@ -160,11 +160,12 @@ pub data HasHistory : SessionState → History → Type 0 where
 abbrev pub Places : SessionState → SessionState → Type 0
 Places s t = (h : History) → HasHistory s h → (more : List Piece) × HasHistory t (record h { placed = h.placed ++ more })
 
--- What finding the step that is due leaves as it is: how many bytes were taken and whether the file has ended, and what was answered
--- Absent and is not sealed. An item that waits afterwards waited before, and is the same.
+-- What finding the step that is due leaves as it is: how many bytes were taken, whether the file has ended and how many segments may
+-- wait, and what was answered Absent and is not sealed. An item that waits afterwards waited before, and is the same.
 pub record KeepsOpen (old new : SessionState) : Type 0 where
   pub count : new.count ≡ old.count
   pub ended : new.ended ≡ old.ended
+  pub most : new.most ≡ old.most
   pub unsealed : (kind : Kind) → unsealed kind new ≡ unsealed kind old
   pub item : new.waits ≡ true → (old.waits ≡ true) × (turn_node new ≡ turn_node old)
       × (item_of (turn_node new) new.queue ≡ item_of (turn_node old) old.queue)

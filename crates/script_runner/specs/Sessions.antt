@@ -1,15 +1,28 @@
 -- The sessions of the actors that give files.
-use Rattle.std.specs.Prelude.{ℕ, Bool, true, false, List, slice_index_or, slice_set, Option, Some, None}
+use Rattle.std.specs.Prelude.{◌≡◌, ℕ, Bool, true, false, List, length, slice_index_or, slice_set, Option, Some, None}
+use Rattle.std.specs.List.{AllByRecursion}
+use Rattle.actor_parts.specs.declared.actor.TheConstants.{ACTORS}
 use Rattle.actor_parts.specs.declared.part.Part.{Part}
 use Rattle.actor_parts.specs.Kinds.{kind_of}
 use Rattle.actor_parts.specs.Parts.{part_of}
 use Rattle.refusals.specs.declared.refusal.PartKind.{PartKind}
 use Rattle.refusals.specs.declared.refusal.PartKind.TheVariants.{Idle, Writing, Finished, Reading}
+use Rattle.ingest_session.specs.declared.queue.TheConstants.{QUEUE}
 use Rattle.ingest_session.specs.State.{SessionState}
 
 -- one for each actor, where it gives a file
 abbrev pub Sessions : Type 0
 Sessions = List (Option SessionState)
+
+-- the session of a line, if there is one, has as many segments waiting as one that is fed line by line may
+abbrev pub IsOfLines : Option SessionState → Type 0
+IsOfLines None = Unit {0}
+IsOfLines (Some s) = s.most ≡ QUEUE
+
+-- one for each actor, each of lines
+pub record AreOfLines (sessions : Sessions) : Type 0 where
+  pub many : length sessions ≡ ACTORS
+  pub each : AllByRecursion IsOfLines sessions
 
 abbrev pub session_of : Sessions → ℕ → Option SessionState
 session_of sessions actor = slice_index_or sessions actor None

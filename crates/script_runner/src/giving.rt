@@ -131,6 +131,7 @@ fn settle<C: HasState>(
     requires ended { session.old.ended ≡ true }
     ensures settles { IfOk result (λ root. Settles C C.state actor root session.old session.new core.old core.new) }
     ensures refused { IfErr result (λ refusal. TurnsStopped C C.state actor refusal session.old session.new core.old core.new) }
+    ensures most { session.new.most ≡ session.old.most }
     ensures running { IsRunning (C.state core.new) }
 {
     make_turns(core, actor, session, buf)?;
@@ -173,6 +174,7 @@ fn put<C: HasState>(
         (λ sequence. Puts C C.state actor name.now sequence session.old core.old core.new) text.items) }
     ensures refused { IfErr result (λ refusal. RefusesPut C C.state actor name.now refusal (session_at session.old core.old)
         (session_at session.new core.new)) }
+    ensures most { session.new.most ≡ session.old.most }
     ensures running { IsRunning (C.state core.new) }
 {
     let root = settle(core, session, actor, buf)?;

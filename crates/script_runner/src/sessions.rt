@@ -1,7 +1,7 @@
 //! The sessions of the actors that give files.
 ghost use Rattle.std.specs.Prelude.{◌≡◌, ◌<◌, None, IfOk, length, replicate};
 ghost use Rattle.actor_parts.specs.declared.actor.TheConstants.{ACTORS};
-ghost use Rattle.script_runner.specs.Sessions.{has_ended, session_of, with_session};
+ghost use Rattle.script_runner.specs.Sessions.{IsOfLines, has_ended, session_of, with_session};
 
 use actor_parts::{ACTORS, Actor};
 use ingest_session::Session;
@@ -15,15 +15,15 @@ pub struct Sessions {
 }
 
 impl Model for Sessions {
-    ghost use Rattle.std.specs.Prelude.{◌≡◌, List, Option, length};
-    ghost use Rattle.actor_parts.specs.declared.actor.TheConstants.{ACTORS};
+    ghost use Rattle.std.specs.Prelude.{List, Option};
     ghost use Rattle.ingest_session.specs.State.{SessionState};
+    ghost use Rattle.script_runner.specs.Sessions.{AreOfLines};
 
     ghost Value = { List (Option SessionState) };
 
     ghost view = { λ s. s.sessions.items };
 
-    ghost invariant = { λ s. length s.sessions.items ≡ ACTORS };
+    ghost invariant = { λ s. AreOfLines s.sessions.items };
 }
 
 impl Sessions {
@@ -50,6 +50,7 @@ impl Sessions {
     pub(crate) fn take(&mut self, actor: Actor) -> Option<Session>
         ensures taken { result ≡ session_of self.old actor }
         ensures left { self.new ≡ with_session self.old actor None }
+        ensures of_lines { IsOfLines result }
         ensures there { actor < length self.old }
     {
         std::mem::replace(&mut self.sessions[actor.number() as usize], None)
@@ -57,6 +58,7 @@ impl Sessions {
 
     /// Gives an actor a session, or none. What it had is let go.
     pub(crate) fn set(&mut self, actor: Actor, session: Option<Session>)
+        requires { IsOfLines session }
         ensures sessions { self.new ≡ with_session self.old actor session }
         ensures there { actor < length self.old }
     {

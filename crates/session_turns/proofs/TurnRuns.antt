@@ -27,7 +27,7 @@ use Rattle.ingest_session.proofs.Staying.{Stays, after, told}
 pub paused_still : (s : SessionState) → IsPaused s s
 paused_still s = record {
   places = λ h has. ([], subst (λ (placed : List _). HasHistory s (record h { placed = placed })) (sym (append-nil h.placed)) has);
-  keeps = record { count = refl; ended = refl; unsealed = λ kind. refl; item = λ on. (on, refl, refl) };
+  keeps = record { count = refl; ended = refl; most = refl; unsealed = λ kind. refl; item = λ on. (on, refl, refl) };
 }
 
 pub paused_on : (s t u : SessionState) → IsPaused s t → IsPaused t u → IsPaused s u
@@ -55,7 +55,7 @@ pause_then_turn runs did answer s t u pause turn = record {
 -- ---- what turns leave as it is
 
 pause_stays : (s t : SessionState) → IsPaused s t → Stays s t
-pause_stays s t pause = record { ended = pause.keeps.ended; count = pause.keeps.count }
+pause_stays s t pause = record { ended = pause.keeps.ended; count = pause.keeps.count; most = pause.keeps.most }
 
 pub turn_stays : (runs : Type 0) (did : Doing) (answer : Answer) (s t : SessionState) → Turn runs did answer s t → Stays s t
 turn_stays runs did answer s t turn =

@@ -58,6 +58,7 @@ pub fn make_turn<C: MakesSteps>(
     ensures none { IfOk result (λ made. made ≡ None → seen session.new ≡ 0) }
     ensures ended { session.new.ended ≡ session.old.ended }
     ensures count { session.new.count ≡ session.old.count }
+    ensures most { session.new.most ≡ session.old.most }
     ensures running { C.runs core.new }
 {
     let due = session.due()?;
@@ -81,6 +82,7 @@ pub fn make_room<C: MakesSteps>(
     ensures room { OnOk result (seen session.new ≤ most_waiting session.new) }
     ensures ended { session.new.ended ≡ session.old.ended }
     ensures count { session.new.count ≡ session.old.count }
+    ensures most { session.new.most ≡ session.old.most }
     ensures running { C.runs core.new }
 {
     while session.queued() > session.most_waiting() {
@@ -103,6 +105,7 @@ pub fn make_turns<C: MakesSteps>(
     ensures done { OnOk result (due_in session.new ≡ Due.Nothing) }
     ensures ended { session.new.ended ≡ session.old.ended }
     ensures count { session.new.count ≡ session.old.count }
+    ensures most { session.new.most ≡ session.old.most }
     ensures running { C.runs core.new }
 {
     while make_turn(core, actor, session, buf)?.is_some() {}
@@ -126,6 +129,7 @@ pub fn feed<C: MakesSteps>(
     ensures count { OnOk result (session.new.count ≡ session.old.count + length bytes.now) }
     ensures few { OnOk result (session.new.count ≤ MOST_FILE) }
     ensures kept { OnErr result (session.new.count ≡ session.old.count) }
+    ensures most { session.new.most ≡ session.old.most }
     ensures running { C.runs core.new }
 {
     make_room(core, actor, session, buf)?;

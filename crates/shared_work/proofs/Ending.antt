@@ -93,9 +93,6 @@ counts_beside (Ok sum) count is =
     subst (AskedBeside false) (append-nil count) (one_beside asked.Unique (Ok (answers.Unique sum.segments sum.bytes)) count [] is tt refl tt)
 counts_beside (Err refusal) count is = subst (AskedBeside false) (append-nil count) (one_beside asked.Unique (Err refusal) count [] is tt refl tt)
 
-err_ok : (refusal : Refusal) → ◌≡◌ {A = Result (Unit {0}) Refusal} (Err refusal) (Ok tt) → ⊥
-err_ok refusal is = cc
-
 ok_err : (refusal : Refusal) → ◌≡◌ {A = Result (Unit {0}) Refusal} (Ok tt) (Err refusal) → ⊥
 ok_err refusal is = cc
 

@@ -37,6 +37,7 @@ loop-actor-preserved g c =
       running = c.in_ok-make_turn.ensures.running;
       ended = c.in_ok-make_turn.ensures.ended ∙ c.loop-actor.invariant.ended;
       count = c.in_ok-make_turn.ensures.count ∙ c.loop-actor.invariant.count;
+      most = c.in_ok-make_turn.ensures.most ∙ c.loop-actor.invariant.most;
       turns = room_then_any _ (maker_of g.C.MakesSteps.runs g.C.MakesSteps.makes) c.args.actor (Unit {0})
           (Unit {0}) tt tt c.args.session.now c.loop-actor.session c.make_turn.new.session c.args.core.now c.loop-actor.core c.make_turn.new.core c.loop-actor.invariant.turns
           (crowded c.queued.result (seen c.loop-actor.session) c.most_waiting.result c.queued.ensures c.most_waiting.ensures.least c.loop-actor-test.true)
@@ -44,4 +45,4 @@ loop-actor-preserved g c =
     }
 
 pub loop-actor-init : goal.loop-actor-init
-loop-actor-init g c = record { running = c.requires; ended = refl; count = refl; turns = ([], (paused_still c.args.session.now, refl), tt) }
+loop-actor-init g c = record { running = c.requires; ended = refl; count = refl; most = refl; turns = ([], (paused_still c.args.session.now, refl), tt) }

@@ -54,3 +54,6 @@ returns-clause-ended g c = ap (λ (x : SessionState). x.ended) c.told.ensures.to
 
 pub returns-clause-count : goal.returns-clause-count
 returns-clause-count g c = ap (λ (x : SessionState). x.count) c.told.ensures.told ∙ (told c.in_ok-answer.answer c.due.new.self).count ∙ c.due.ensures.keeps.count
+
+pub returns-clause-most : goal.returns-clause-most
+returns-clause-most g c = ap (λ (x : SessionState). x.most) c.told.ensures.told ∙ (told c.in_ok-answer.answer c.due.new.self).most ∙ c.due.ensures.keeps.most

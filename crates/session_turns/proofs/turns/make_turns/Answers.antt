@@ -28,10 +28,11 @@ loop-preserved g c =
       running = c.in_ok-make_turn.ensures.running;
       ended = c.in_ok-make_turn.ensures.ended ∙ c.loop.invariant.ended;
       count = c.in_ok-make_turn.ensures.count ∙ c.loop.invariant.count;
+      most = c.in_ok-make_turn.ensures.most ∙ c.loop.invariant.most;
       turns = turns_then_any _ (maker_of g.C.MakesSteps.runs g.C.MakesSteps.makes) c.args.actor (Unit {0})
           (Unit {0}) tt tt c.args.session.now c.loop.session c.make_turn.new.session c.args.core.now c.loop.core c.make_turn.new.core c.loop.invariant.turns
           c.in_ok-make_turn.field-0 c.in_ok-make_turn.ensures.turn;
     }
 
 pub loop-init : goal.loop-init
-loop-init g c = record { running = c.requires; ended = refl; count = refl; turns = ([], (paused_still c.args.session.now, refl)) }
+loop-init g c = record { running = c.requires; ended = refl; count = refl; most = refl; turns = ([], (paused_still c.args.session.now, refl)) }

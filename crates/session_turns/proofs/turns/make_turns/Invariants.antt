@@ -8,6 +8,7 @@ invariant-loop g l = record {
   running : g.C.MakesSteps.runs l.core;
   ended : l.session.ended ≡ l.initial.session.ended;
   count : l.session.count ≡ l.initial.session.count;
+  most : l.session.most ≡ l.initial.session.most;
   turns : TakesTurnsBy (maker_of g.C.MakesSteps.runs g.C.MakesSteps.makes) l.actor {T = Unit {0}} (Ok tt) l.initial.session l.session l.initial.core l.core;
 }
 

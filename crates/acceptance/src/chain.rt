@@ -123,7 +123,7 @@ struct Run {
 
 /// The run that the words of a line stand for: those of the command, `< BYTES` of the source, and `!source=CALL`,
 /// `!sink=CALL` and `!notes=CALL` for calls that fail, `!piece=COUNT` for a source no read of which gives more bytes, and
-/// `!alone` for the top call of commands that start no threads.
+/// `!alone` for the top call of commands that start no workers.
 fn run_of(alloc: Global, words: &[&str]) -> Result<Run, Fault> {
     let mut run = Run {
         words: Vec::new(alloc),

@@ -138,7 +138,7 @@ abbrev pub line_of : ListOf (ListOf ℕ) → Option TableLine
 line_of [] = None
 line_of (command ∷ words) = line_by command words
 
--- the line, where it starts no threads
+-- the line, where it starts no workers
 abbrev pub alone_line : Option TableLine → Option TableLine
 alone_line (Some (Work load)) = None
 alone_line line = line

@@ -58,7 +58,7 @@ seen_by c disk disk_now = record {
   notes_now = c.notes_now;
 }
 
--- (no call of a list starts threads)
+-- (no call of a list starts workers)
 abbrev pub KeepsAs : (D : Type 0) → (D → DiskView) → Option TableLine → Call → DiskView → DiskView → Type 0
 KeepsAs D view (Some Check) c disk disk_now = ChecksDisk c.status (seen_by c disk disk_now)
 KeepsAs D view (Some (Work load)) c disk disk_now = ⊥
@@ -73,7 +73,7 @@ abbrev pub CallRun : (D : Type 0) → (D → DiskView) → List Call → D → D
 CallRun D view [] old new = new ≡ old
 CallRun D view (c ∷ cs) old new = (mid : D) × (KeepsCall D view c (view old) (view mid) × CallRun D view cs mid new)
 
--- What `backup` promises of a call that starts no threads is that, for some ending, bytes given and lines: so calls of it make such a run.
+-- What `backup` promises of a call that starts no workers is that, for some ending, bytes given and lines: so calls of it make such a run.
 abbrev pub IsPromised : (D : Type 0) → (D → DiskView) → Type 0
 IsPromised D view = (c : Call) (old new : D) → alone_line c.line ≡ c.line
     → Promise D view c.line c.status (seen_by c (view old) (view new))

@@ -57,7 +57,7 @@ pub record Keeps (command : CommandLine) (given : List ℕ) (ending : Option End
   pub blank : IsLeftBlank command saw.disk saw.disk_now
   pub untouched : IsUntouched command ending saw.disk saw.disk_now
 
--- All that is known of the disk is what was, the moment too, which each call makes rise. (A view is too large a type for ≡.)
+-- All that is known of the disk is what was, the moment too, which reads, writes and syncs make rise. (A view is too large for ≡.)
 pub record IsSameDisk (disk disk_now : DiskView) : Type 0 where
   pub size_is : disk_now.size ≡ disk.size
   pub content_is : disk_now.content ≡ disk.content

@@ -111,7 +111,7 @@ fn take_in<C: HasState, S: Source, R: Threads + Sync>(
     Ok(())
 }
 
-/// Stores all that the source has left under a name, and writes the reply. Digests are taken by several threads.
+/// Stores all that the source has left under a name, and writes the reply. Its digests may be taken by several threads.
 pub(crate) fn store_source<C: HasState, S: Source, K: Sink, R: Threads + Sync>(
     rt: &R,
     alloc: Global,

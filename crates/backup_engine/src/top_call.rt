@@ -81,8 +81,8 @@ pub fn backup<
     }
 }
 
-/// `backup` for the commands that wait for no other thread's work, so that it always returns: the words of `work` are no line of the
-/// table here. The threads by which `ingest` takes digests have ended before it returns.
+/// `backup` for the commands that wait for nothing but threads that take digests, so that it always returns: the words of `work` are no
+/// line of the table here. These threads, of `ingest`, have ended before it returns.
 pub fn backup_alone<R: Threads + Sync, D: Disk + Send, S: Source, K: Sink, Q: Sink>(
     rt: &R,
     alloc: Global,

@@ -1,5 +1,5 @@
 -- Turns of a session as steps of a machine that fits the core, each as it was due.
-use Rattle.script_runner.proofs.Prelude.{◌≡◌, ◌≢◌, ◌⊎◌, inl, inr, ◌∙◌, ℕ, Bool, List, [], ◌∷◌, ◌++◌, Some, None, Result, Ok, Err, refl, sym, ap, subst, Answer, StepValue, Refusal, Due, due_in, offered_in, IsDueFor, HasHistory, answered, SessionState, Event, IsRunning, Asked, AreTurns, IsDueStep, Session, step_of, Machine, Stepped, Values, answered_by, asked_as, Asks, IsPaused, IsRefusedTurn, TurnRun, TurnsStopped, IsSessionOf, Kept}
+use Rattle.script_runner.proofs.Prelude.{◌≡◌, ◌≢◌, ◌⊎◌, inl, inr, ◌∙◌, ℕ, Bool, List, [], ◌∷◌, ◌++◌, Some, None, Result, Ok, Err, refl, sym, ap, subst, arith, Answer, StepValue, Refusal, Due, due_in, offered_in, IsDueFor, HasHistory, answered, SessionState, Event, IsRunning, Asked, AreTurns, IsDueStep, Session, step_of, Machine, Stepped, Values, answered_by, asked_as, Asks, IsPaused, IsRefusedTurn, TurnRun, TurnsStopped, IsSessionOf, Kept}
 use Rattle.actor_parts.specs.declared.step.Answer.TheVariants as answers
 use Rattle.actor_parts.specs.Parts.{part_of}
 use Rattle.actor_parts.specs.StepValue as steps
@@ -11,6 +11,7 @@ use Rattle.store_machine.specs.Lines as machine
 use Rattle.store_machine.specs.Lines.{StopsAfter, answer_of}
 use Rattle.session_turns.specs.Turns.{AreForRoom, IsCrowded, IsTurn, StopForRoom, session_at}
 use Rattle.ingest_session.proofs.Staying.{told}
+use Rattle.ingest_session.proofs.Waiting.{session_of as sound_of}
 use Rattle.script_runner.proofs.DeskRuns.{Ran, ran_none, ran_on}
 use Rattle.script_runner.proofs.DeskSessions.{session_on}
 use Rattle.script_runner.proofs.DeskSteps.{Makes, makes}
@@ -61,7 +62,8 @@ due_of P s x is settled = record {
 pub crowded_of : {V R : Type 0} (v : Values V R) (P : Kept → Type 0) (s : Session) (x : SessionState) → IsSessionOf P s x → IsCrowded x → machine.IsCrowded v s
 crowded_of v P s x is crowded =
     let of = paused_of P s x crowded.0 is crowded.1 in
-    (crowded.0, of.history, of.has, of.given_is, of.answers_are, of.ended_is, crowded.2)
+    let least = (sound_of crowded.0 of.history of.has).least in
+    (crowded.0, of.history, of.has, of.given_is, of.answers_are, of.ended_is, omega (arith, least, crowded.2))
 
 -- an answer that is due is told
 pub answer_told : (answer : Answer) (x : SessionState) (buf : List ℕ) → IsAnswerFor answer x → answer_of (answered_by (Ok answer) buf) ≡ Some answer

@@ -11,9 +11,8 @@ use Rattle.actor_parts.specs.StepValue as asked
 use Rattle.refusals.specs.declared.refusal.Refusal.{Refusal}
 use Rattle.ingest_session.specs.declared.due.Due.TheVariants.{Claim, Seal}
 use Rattle.ingest_session.specs.Due.{due_in, offered_in}
-use Rattle.ingest_session.specs.declared.queue.TheConstants.{MOST_WAITING}
 use Rattle.ingest_session.specs.History.{HasHistory}
-use Rattle.ingest_session.specs.Settling.{seen}
+use Rattle.ingest_session.specs.Settling.{most_waiting, seen}
 use Rattle.ingest_session.specs.State.{SessionState}
 use Rattle.ingest_session.specs.Told.{IsAnswerFor}
 use Rattle.store_core.specs.State.{CoreState}
@@ -129,7 +128,7 @@ module _ (M : Type 0) (maker : Maker M) (actor : ℕ) where
   one_for_room [] answer s t u old mid new run turn room crowded = ((crowded.0, paused_on s t crowded.0 run.0 crowded.1, crowded.2), tt)
   one_for_room (first ∷ answers) answer s t u old mid new run turn room crowded = (room.0, one_for_room answers answer run.0 t u run.1 mid new run.3 turn room.1 crowded)
 
-  pub room_then_any : (T U : Type 0) (x : T) (y : U) (s t u : SessionState) (old mid new : M) → MakesRoomBy maker actor (Ok x) s t old mid → MOST_WAITING < seen t →
+  pub room_then_any : (T U : Type 0) (x : T) (y : U) (s t u : SessionState) (old mid new : M) → MakesRoomBy maker actor (Ok x) s t old mid → most_waiting t < seen t →
       (made : Option Answer)
       → TakesTurnBy maker actor (Ok made) t u mid new
       → MakesRoomBy maker actor (Ok y) s u old new
@@ -142,7 +141,7 @@ module _ (M : Type 0) (maker : Maker M) (actor : ℕ) where
     one_for_room room.0 answer s t u old mid new room.1 turn room.2 (t, paused_still t, many),
   )
 
-  pub room_then_stop : (T U : Type 0) (x : T) (refusal : Refusal) (s t u : SessionState) (old mid new : M) → MakesRoomBy maker actor (Ok x) s t old mid → MOST_WAITING < seen t
+  pub room_then_stop : (T U : Type 0) (x : T) (refusal : Refusal) (s t u : SessionState) (old mid new : M) → MakesRoomBy maker actor (Ok x) s t old mid → most_waiting t < seen t
       → TakesTurnBy maker actor (Err refusal) t u mid new
       → MakesRoomBy maker actor {T = U} (Err refusal) s u old new
   room_then_stop T U x refusal s t u old mid new room many stop = ((room.0, t, mid, room.1, stop), (room.2, (t, paused_still t, many)))

@@ -9,12 +9,11 @@ use Rattle.refusals.specs.declared.refusal.Refusal.{Refusal}
 use Rattle.refusals.specs.declared.refusal.Refusal.TheVariants.{Memory}
 use Rattle.ingest_session.specs.declared.due.Due.{Due}
 use Rattle.ingest_session.specs.declared.due.Due.TheVariants.{Claim, Seal, Nothing}
-use Rattle.ingest_session.specs.declared.queue.TheConstants.{MOST_WAITING}
 use Rattle.ingest_session.specs.Calls.{IsPushAnswer, IsTaking}
 use Rattle.ingest_session.specs.Due.{due_in, offered_in}
 use Rattle.ingest_session.specs.History.{History, HasHistory, KeepsOpen, Places, answered}
 use Rattle.ingest_session.specs.Moving.{IsOffered}
-use Rattle.ingest_session.specs.Settling.{seen}
+use Rattle.ingest_session.specs.Settling.{most_waiting, seen}
 use Rattle.ingest_session.specs.State.{SessionState}
 use Rattle.ingest_session.specs.Told.{IsAnswerFor, IsSettled, told_by}
 
@@ -66,7 +65,7 @@ TurnRefused does refusal s t = IsPaused s t × IsSettled t × AskedFor does (due
 
 -- Items that need no step may have gone to their place, and still more segments wait than a push leaves.
 abbrev pub IsCrowded : SessionState → Type 0
-IsCrowded s = (x : SessionState) × IsPaused s x × (MOST_WAITING < seen x)
+IsCrowded s = (x : SessionState) × IsPaused s x × (most_waiting x < seen x)
 
 -- a session, and what makes its steps, at a moment
 pub record SessionMoment (M : Type 0) : Type 0 where

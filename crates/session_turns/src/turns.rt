@@ -70,7 +70,7 @@ pub fn make_turn<C: MakesSteps>(
     Ok(Some(answer))
 }
 
-/// Makes turns until few segments wait, and none when few do.
+/// Makes turns while more segments wait than the session may have wait before a piece is given, and none when no more do.
 pub fn make_room<C: MakesSteps>(
     core: &mut C,
     actor: Actor,

@@ -25,7 +25,7 @@ returns-in-Check-clause-promise g c =
     let line_is = ap (λ (l : Line). alone_line (Some (line_value l))) c.in-Check.is in
     promise_as _ g.D.Disk.view _ (Some Check) c.check_disk.result _ line_is (c.check_disk.ensures.checks (g.S.Source.view c.args.source.now))
 
--- it would start threads
+-- it would start workers
 pub returns-in-Work-clause-promise : goal.returns-in-Work-clause-promise
 returns-in-Work-clause-promise g c =
     let none = ap (λ (l : Line). alone_line (Some (line_value l))) c.in-Work.is in

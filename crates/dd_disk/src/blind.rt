@@ -7,7 +7,7 @@ ghost use Rattle.dd_disk.specs.Ending.{Done, Reads};
 ghost use Rattle.dd_disk.specs.Writes.{Torn};
 ghost use Rattle.dd_disk.specs.Lies.{TellsLies};
 
-use crate::bytes::{get, put};
+use crate::bytes::{copy_part, get, put};
 use crate::{Disk, DiskFault};
 
 /// A disk that gives these bytes, but other ones at the places of its lies. It never fails, and tells no content; what a
@@ -88,6 +88,10 @@ impl Disk for BlindDisk {
         get(&self.bytes, at as usize, into);
         tell_lies(&self.lies, at, into);
         Ok(())
+    }
+
+    fn read_ahead(&self, at: u64, into: &mut [u8]) -> bool {
+        copy_part(&self.bytes, at as usize, into)
     }
 
     fn write(&mut self, at: u64, from: &[u8]) -> Result<(), DiskFault>

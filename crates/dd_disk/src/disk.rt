@@ -28,6 +28,12 @@ pub trait Disk {
         ensures rises { Rose (view self.old).clock (view self.new).clock }
         ensures reads { Reads (ending (λ _. ReadCall) result) (view self.old) (view self.new) };
 
+    /// Puts the bytes from `at` on into `into` before they are read, if it can, and answers whether it did. It is none of the calls that
+    /// are told of: it takes no moment, counts no fault, and shows nothing of the disk. So whoever calls it reads again what it needs.
+    fn read_ahead(&self, _at: u64, _into: &mut [u8]) -> bool {
+        false
+    }
+
     /// Writes these bytes from `at` on. Until a sync, a crash may leave any bytes in the range, and so does a write
     /// that fails.
     fn write(&mut self, at: u64, from: &[u8]) -> Result<(), DiskFault>

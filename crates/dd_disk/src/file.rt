@@ -75,6 +75,10 @@ impl Disk for FileDisk {
         counted(&mut self.faults, self.file.read_exact_at(into, at))
     }
 
+    fn read_ahead(&self, at: u64, into: &mut [u8]) -> bool {
+        self.file.read_exact_at(into, at).is_ok()
+    }
+
     fn write(&mut self, at: u64, from: &[u8]) -> Result<(), DiskFault> {
         self.moment = self.moment.saturating_add(1);
         counted(&mut self.faults, self.file.write_all_at(from, at))

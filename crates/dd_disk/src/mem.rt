@@ -7,7 +7,7 @@ ghost use Rattle.dd_disk.specs.Ending.{ReadCall, WriteCall, ending, CountsFault,
 ghost use Rattle.dd_disk.specs.Writes.{Torn};
 ghost use Rattle.dd_disk.specs.Calls.{first_of, shown_after, IsReadOf, IsWriteOf, IsSync, IsPast, IsPast-prop, stop_image};
 
-use crate::bytes::{get, put};
+use crate::bytes::{copy_part, get, put};
 use crate::call::{Asked, Call, Fill, Log, Noted};
 use crate::crash::image_inside;
 use crate::{Disk, DiskFault};
@@ -125,6 +125,10 @@ impl Disk for MemDisk {
             Noted::Failed => Err(DiskFault),
             Noted::Missed => Err(DiskFault),
         }
+    }
+
+    fn read_ahead(&self, at: u64, into: &mut [u8]) -> bool {
+        copy_part(&self.bytes, at as usize, into)
     }
 
     fn write(&mut self, at: u64, from: &[u8]) -> Result<(), DiskFault>

@@ -1,0 +1,123 @@
+//! Digests that are taken before they are asked for.
+ghost use Rattle.std.specs.Prelude.{◌≡◌, IfSome};
+ghost use Rattle.sha2.specs.Sha256.{sha256};
+
+use crate::at_once::digests;
+use sha2::{Digest, Sha256};
+use std::alloc::{AllocError, Global};
+use std::marker::Model;
+use std::thread::Threads;
+
+/// What gives the digest of bytes, whether it is taken now or was before.
+pub trait TakesDigests {
+    /// The SHA-256 (FIPS 180-4).
+    fn digest(&mut self, bytes: &[u8]) -> [u8; 32]
+        ensures { result ≡ sha256 bytes.now };
+}
+
+/// Each digest is taken as it is asked for.
+#[derive(Drop)]
+pub struct Afresh;
+
+impl TakesDigests for Afresh {
+    fn digest(&mut self, bytes: &[u8]) -> [u8; 32] {
+        Sha256::digest(bytes)
+    }
+}
+
+/// Byte strings whose digests will be asked for, one after the other, and their digests once `take` was called. The digest of other bytes
+/// than those whose turn it is, is taken afresh: so it gives the right one of any bytes, and contracts see nothing of it.
+#[derive(Drop)]
+pub struct Ahead {
+    /// The first `count` of these are the byte strings; the others are buffers that are used again.
+    texts: Vec<Vec<u8>>,
+    count: usize,
+    /// Those of the first texts.
+    digests: Vec<[u8; 32]>,
+    /// The first text that was not asked for.
+    next: usize,
+}
+
+impl Model for Ahead {
+    ghost use Rattle.digests.specs.Ahead.{AreTaken};
+
+    ghost Value = { Unit {0} };
+
+    ghost view = { λ a. tt };
+
+    ghost invariant = { λ a. AreTaken a.count a.texts.items a.digests.items };
+}
+
+impl TakesDigests for Ahead {
+    fn digest(&mut self, bytes: &[u8]) -> [u8; 32] {
+        let known = self.known(bytes);
+        self.next = self.next.saturating_add(1);
+        match known {
+            Some(digest) => digest,
+            None => Sha256::digest(bytes),
+        }
+    }
+}
+
+impl Ahead {
+    /// No bytes. It takes no memory.
+    pub fn new(alloc: Global) -> Ahead {
+        Ahead {
+            texts: Vec::new(alloc),
+            count: 0,
+            digests: Vec::new(alloc),
+            next: 0,
+        }
+    }
+
+    // The digest of these bytes, where they are the text that comes next.
+    fn known(&self, bytes: &[u8]) -> Option<[u8; 32]>
+        ensures { IfSome result (λ digest. digest ≡ sha256 bytes.now) }
+    {
+        if self.next < self.digests.len() && self.texts[self.next].as_slice() == bytes {
+            return Some(self.digests[self.next]);
+        }
+        None
+    }
+
+    /// Whether all digests that were taken were asked for.
+    pub fn is_used_up(&self) -> bool {
+        self.next >= self.digests.len()
+    }
+
+    /// How many byte strings there are.
+    pub fn len(&self) -> usize {
+        self.count
+    }
+
+    /// Forgets all, but for the memory.
+    pub fn clear(&mut self) {
+        self.digests.clear();
+        self.count = 0;
+        self.next = 0;
+    }
+
+    /// One byte string more, whose digest is not taken yet, and no digest of the others. It fails for want of memory alone.
+    pub fn add(&mut self, alloc: Global, bytes: &[u8]) -> Result<(), AllocError> {
+        self.digests.clear();
+        if self.count < self.texts.len() {
+            let text = &mut self.texts[self.count];
+            text.clear();
+            text.extend_from_slice(bytes)?;
+        } else {
+            let mut text = Vec::new(alloc);
+            text.extend_from_slice(bytes)?;
+            self.texts.push(text)?;
+        }
+        self.count += 1;
+        Ok(())
+    }
+
+    /// Takes the digests of all at once, by several threads. It fails for want of memory alone, and then there are none.
+    pub fn take(&mut self, rt: &(impl Threads + Sync), alloc: Global) -> Result<(), AllocError> {
+        self.next = 0;
+        self.digests.clear();
+        self.digests = digests(rt, alloc, &self.texts[..self.count])?;
+        Ok(())
+    }
+}

@@ -27,26 +27,34 @@ ghost use Rattle.container_log.specs.Inspecting.{
   slots_found,
 };
 
+use crate::ahead::look_ahead;
 use crate::reading::why_of;
 use crate::slot::read_gate;
 use base_model::part;
-use container_meta::{Entry, MetaFault, decode_into, digest_of};
+use container_meta::{Entry, MetaFault, decode_into};
 use dd_disk::{Disk, DiskFault, read_at};
 use dd_io::Sink;
+use digests::{Ahead, TakesDigests};
 use disk_format::{CONTAINER_GATE, HEADER_BYTES, MOST_ENTRIES, SLOT_BYTES, Why, slot_at};
 use inspection::{Damage, Halt, SpellsDamage, Tally, add_cell, add_copy};
 use std::alloc::Global;
+use std::thread::Threads;
 
 // ---- what stands in an open slot, by its bytes
 
 // The damage of a copy.
-fn copy_damage(slot: u32, entry: &Entry, bytes: &[u8]) -> Option<Damage>
+fn copy_damage<H: TakesDigests>(
+    digests: &mut H,
+    slot: u32,
+    entry: &Entry,
+    bytes: &[u8],
+) -> Option<Damage>
     requires length { length bytes.now ≡ SLOT_BYTES }
     requires within { entry.now.offset + entry.now.length ≤ DATA_BYTES }
     ensures { result ≡ damage_of_copy slot entry.now (sha256 (copy_bytes entry.now bytes.now)) }
 {
     let from = HEADER_BYTES as usize + entry.offset as usize;
-    let got = digest_of(part(bytes, from, entry.length as usize));
+    let got = digests.digest(part(bytes, from, entry.length as usize));
     if entry.digest == got {
         return None;
     }
@@ -60,7 +68,8 @@ fn copy_damage(slot: u32, entry: &Entry, bytes: &[u8]) -> Option<Damage>
 }
 
 // Each copy that entries name is counted, and its damage handed on.
-fn inspect_copies<K: Sink, S: SpellsDamage>(
+fn inspect_copies<K: Sink, S: SpellsDamage, H: TakesDigests>(
+    digests: &mut H,
     sink: &mut K,
     tally: &mut Tally,
     slot: u32,
@@ -75,7 +84,7 @@ fn inspect_copies<K: Sink, S: SpellsDamage>(
         × Stops S.line (copies_found slot entries.now bytes.now) (K.view sink.old) (K.view sink.new) halt) }
 {
     for entry in entries {
-        add_copy::<K, S>(sink, tally, &copy_damage(slot, entry, bytes))?;
+        add_copy::<K, S>(sink, tally, &copy_damage(digests, slot, entry, bytes))?;
     }
     Ok(())
 }
@@ -116,7 +125,8 @@ fn header_damage(slot: u32, header: &[u8], fault: MetaFault) -> Option<Damage>
 // The header of an open slot is counted, and its damage handed on; the copies of a right one come after it. The id of a right one
 // is answered.
 #[tactic(auto, unfolding(crate::specs::Inspecting::slot_found))]
-fn inspect_bytes<K: Sink, S: SpellsDamage>(
+fn inspect_bytes<K: Sink, S: SpellsDamage, H: TakesDigests>(
+    digests: &mut H,
     sink: &mut K,
     tally: &mut Tally,
     slot: u32,
@@ -136,7 +146,7 @@ fn inspect_bytes<K: Sink, S: SpellsDamage>(
     match decode_into(bytes, entries) {
         Ok(right) => {
             add_cell::<K, S>(sink, tally, &id_damage(slot, ids, right.id))?;
-            inspect_copies::<K, S>(sink, tally, slot, entries, bytes)?;
+            inspect_copies::<K, S, H>(digests, sink, tally, slot, entries, bytes)?;
             Ok(Some(right.id))
         }
         Err(fault) => {
@@ -197,8 +207,9 @@ fn add_id(ids: &mut Vec<u64>, id: Option<u64>) -> Result<(), Halt>
 }
 
 // One slot. The id of a right header is put behind those before it.
-fn inspect_slot<D: Disk, K: Sink, S: SpellsDamage>(
+fn inspect_slot<D: Disk, K: Sink, S: SpellsDamage, H: TakesDigests>(
     disk: &mut D,
+    digests: &mut H,
     sink: &mut K,
     tally: &mut Tally,
     slot: u32,
@@ -221,7 +232,7 @@ fn inspect_slot<D: Disk, K: Sink, S: SpellsDamage>(
     if !read_slot_into(disk, slot, bytes)? {
         return Ok(());
     }
-    let id = inspect_bytes::<K, S>(sink, tally, slot, ids, bytes, entries)?;
+    let id = inspect_bytes::<K, S, H>(digests, sink, tally, slot, ids, bytes, entries)?;
     add_id(ids, id)
 }
 
@@ -244,7 +255,9 @@ fn entry_buffer(alloc: Global) -> Result<Vec<Entry>, Halt>
 }
 
 // The slots of a disk, from slot 0 on, each read into `bytes`.
-fn inspect_each<D: Disk, K: Sink, S: SpellsDamage>(
+fn inspect_each<D: Disk, K: Sink, S: SpellsDamage, R: Threads + Sync>(
+    rt: &R,
+    alloc: Global,
     disk: &mut D,
     sink: &mut K,
     tally: &mut Tally,
@@ -264,16 +277,22 @@ fn inspect_each<D: Disk, K: Sink, S: SpellsDamage>(
         (D.view disk.old) (D.view disk.new) (K.view sink.old) (K.view sink.new)) }
     ensures reads { Reads (ending blames result) (D.view disk.old) (D.view disk.new) }
 {
+    let mut ahead = Ahead::new(alloc);
     for slot in 0..slots {
-        inspect_slot::<D, K, S>(disk, sink, tally, slot, &mut ids, bytes, entries)?;
+        look_ahead(rt, alloc, &*disk, &mut ahead, slots, slot, bytes, entries);
+        inspect_slot::<D, K, S, Ahead>(
+            disk, &mut ahead, sink, tally, slot, &mut ids, bytes, entries,
+        )?;
     }
     Ok(())
 }
 
 /// Inspects the slots of a disk, from slot 0 on: of each its gate and, where that is open, all bytes after it, each read once. A header
 /// that breaks the format, or has the id of a right one before it, is damaged; and of a right one each copy whose bytes have another
-/// digest. It takes memory for one slot, for the entries of one, and for the ids.
-pub fn inspect_slots<D: Disk, K: Sink, S: SpellsDamage>(
+/// digest. These digests are taken by several threads, of slots that are read ahead. It takes memory for one slot, for the entries of
+/// one, and for the ids; and, where there is some, for the copies of the slots that are read ahead.
+pub fn inspect_slots<D: Disk, K: Sink, S: SpellsDamage, R: Threads + Sync>(
+    rt: &R,
     alloc: Global,
     disk: &mut D,
     sink: &mut K,
@@ -290,7 +309,9 @@ pub fn inspect_slots<D: Disk, K: Sink, S: SpellsDamage>(
 {
     let mut bytes = slot_buffer(alloc)?;
     let mut entries = entry_buffer(alloc)?;
-    inspect_each::<D, K, S>(
+    inspect_each::<D, K, S, R>(
+        rt,
+        alloc,
         disk,
         sink,
         tally,

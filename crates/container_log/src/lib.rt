@@ -3,6 +3,7 @@
 //! The format is docs/FORMAT.md, 'The disk' and 'Container slot'.
 #![tactic(auto)]
 
+mod ahead;
 mod fault;
 mod inspecting;
 mod reading;

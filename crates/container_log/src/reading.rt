@@ -15,8 +15,9 @@ ghost use Rattle.container_log.specs.Parts.{segment_bytes, ReadAs, ReadAt};
 
 use crate::fault::LogFault;
 use base_model::seven_at;
-use container_meta::{Entry, Header, Meta, MetaFault, decode, decode_into, digest_of, header_end};
+use container_meta::{Entry, Header, Meta, MetaFault, decode, decode_into, header_end};
 use dd_disk::{Disk, DiskFault, read_at};
+use digests::TakesDigests;
 use disk_format::{HEADER_BYTES, Why, data_at, slot_at};
 use std::alloc::{AllocError, Global};
 
@@ -49,7 +50,12 @@ fn corrupt(place: &Spot, got: [u8; 32]) -> LogFault
 }
 
 // Reads a segment's bytes and checks them.
-fn read_whole<D: Disk>(disk: &mut D, place: &Spot, into: &mut [u8]) -> Result<(), LogFault>
+fn read_whole<D: Disk, H: TakesDigests>(
+    disk: &mut D,
+    digests: &mut H,
+    place: &Spot,
+    into: &mut [u8],
+) -> Result<(), LogFault>
     requires place { data_at place.now.slot + place.now.offset + place.now.length ≤ (D.view disk.old).size }
     requires length { length into.old ≡ place.now.length }
     ensures digest { OnOk result (sha256 into.new ≡ place.now.digest) }
@@ -61,7 +67,7 @@ fn read_whole<D: Disk>(disk: &mut D, place: &Spot, into: &mut [u8]) -> Result<()
         Ok(()) => {}
         Err(DiskFault) => return Err(LogFault::DiskRead),
     }
-    let got = digest_of(into);
+    let got = digests.digest(into);
     if got != place.digest {
         return Err(corrupt(place, got));
     }
@@ -72,7 +78,12 @@ fn read_whole<D: Disk>(disk: &mut D, place: &Spot, into: &mut [u8]) -> Result<()
 ///
 /// Bytes of another digest are `LogFault::Corrupt`, and then, as where the read fails, `buf` has any bytes.
 /// It takes no memory.
-pub fn read_segment<D: Disk>(disk: &mut D, place: &Spot, buf: &mut [u8]) -> Result<(), LogFault>
+pub fn read_segment<D: Disk, H: TakesDigests>(
+    disk: &mut D,
+    digests: &mut H,
+    place: &Spot,
+    buf: &mut [u8],
+) -> Result<(), LogFault>
     requires place { data_at place.now.slot + place.now.offset + place.now.length ≤ (D.view disk.old).size }
     requires room { place.now.length ≤ length buf.old }
     // On any disk, whatever it gives.
@@ -83,7 +94,7 @@ pub fn read_segment<D: Disk>(disk: &mut D, place: &Spot, buf: &mut [u8]) -> Resu
     ensures fault { IfErr result (IsSegmentFault (ReadAs (D.view disk.old) (D.view disk.new) (segment_bytes place.now)) place.now) }
 {
     let length = place.length as usize;
-    read_whole(disk, place, &mut buf[..length])
+    read_whole(disk, digests, place, &mut buf[..length])
 }
 
 // How a header breaks the format, by its first fault; none where memory ran out.

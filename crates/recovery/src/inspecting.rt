@@ -14,6 +14,7 @@ use inspection::{Halt, SpellsDamage, Tally, add_cell};
 use journal_cells::inspect_journal;
 use refusals::Refusal;
 use std::alloc::Global;
+use std::thread::Threads;
 
 /// Why a disk was not inspected to the end.
 #[derive(Clone, Copy)]
@@ -46,7 +47,8 @@ fn nothing_counted() -> Tally
 }
 
 // The format cell, which is right, is counted; then come the journal and the slots.
-fn inspect_parts<D: Disk, K: Sink, S: SpellsDamage>(
+fn inspect_parts<D: Disk, K: Sink, S: SpellsDamage, R: Threads + Sync>(
+    rt: &R,
     alloc: Global,
     disk: &mut D,
     sink: &mut K,
@@ -63,16 +65,17 @@ fn inspect_parts<D: Disk, K: Sink, S: SpellsDamage>(
 {
     add_cell::<K, S>(sink, tally, &None)?;
     inspect_journal::<D, K, S>(alloc, disk, sink, tally)?;
-    inspect_slots::<D, K, S>(alloc, disk, sink, tally, slots)
+    inspect_slots::<D, K, S, R>(rt, alloc, disk, sink, tally, slots)
 }
 
 /// Looks at all of a disk that has a format, and hands on what breaks it, as it is found; it answers how many open cells and headers and
 /// how many entries it saw, and how many of the damages there are.
 ///
 /// The format cell comes first, with the refusals of an opening; then both selectors where they are open, the records of each half
-/// whose selector is open, and the container slots, each read once. It writes nothing. It takes memory for the names of one half of the
-/// journal, for one slot with its entries, and for an id for each slot.
-pub fn inspect<D: Disk, K: Sink, S: SpellsDamage>(
+/// whose selector is open, and the container slots, the digests of whose copies are taken by several threads. It writes nothing. It takes
+/// memory for the names of one half of the journal, for one slot with its entries, for the copies of some slots, and for an id for each slot.
+pub fn inspect<D: Disk, K: Sink, S: SpellsDamage, R: Threads + Sync>(
+    rt: &R,
     alloc: Global,
     disk: &mut D,
     sink: &mut K,
@@ -86,7 +89,7 @@ pub fn inspect<D: Disk, K: Sink, S: SpellsDamage>(
         Err(refusal) => return Err(Uninspected::Refused(refusal)),
     };
     let mut tally = nothing_counted();
-    match inspect_parts::<D, K, S>(alloc, disk, sink, &mut tally, slots) {
+    match inspect_parts::<D, K, S, R>(rt, alloc, disk, sink, &mut tally, slots) {
         Ok(()) => Ok(tally),
         Err(halt) => Err(ended_by(halt)),
     }

@@ -2,6 +2,7 @@
 use container_log::{LogFault, Spot, free, read_segment, read_slot, seal};
 use container_meta::{Fit, Kind, OpenContainer, Seg};
 use dd_disk::{Disk, MemDisk};
+use digests::Afresh;
 use std::alloc::Global;
 use std::test::Fail;
 
@@ -52,7 +53,7 @@ fn segment<D: Disk>(disk: &mut D, buf: &mut [u8; 5]) -> Result<Result<(), LogFau
         length: 3,
         digest: ABC,
     };
-    Ok(read_segment(disk, &place, buf))
+    Ok(read_segment(disk, &mut Afresh, &place, buf))
 }
 
 fn close<D: Disk>(disk: &mut D) -> Result<Result<(), LogFault>, Fail> {

@@ -16,6 +16,7 @@ use crate::entries::{is_copy, place_in};
 use crate::plan::Plan;
 use container_meta::{Entry, Fit, Key, Kind, Meta, OpenContainer, key_of};
 use dd_disk::Disk;
+use digests::Afresh;
 use gc_enumerate::Live;
 use refusals::Refusal;
 use segment_index::Index;
@@ -42,7 +43,8 @@ fn add_copy<D: Disk>(
     ensures refused { IfErr result (IsAddRefusal (Shows (D.view disk.old) (D.view disk.new)) slot entry.now) }
     ensures reads { Reads (ending blames result) (D.view disk.old) (D.view disk.new) }
 {
-    read_copy(disk, &place_in(slot, entry), &entry.digest, buf)?;
+    let place = place_in(slot, entry);
+    read_copy(disk, &mut Afresh, &place, &entry.digest, buf)?;
     let seg = seg_of(alloc, kind, entry.level, &buf[..entry.length as usize])?;
     match buffer.try_add(&seg) {
         Fit::Added => Ok(()),

@@ -5,6 +5,7 @@ ghost use Rattle.gc_steps.specs.Scanning.{scan_fault, step_refusal};
 use container_meta::{Key, Place};
 use copy_forward::same_place;
 use dd_disk::Disk;
+use digests::Afresh;
 use gc_enumerate::{Copies, ScanFault};
 use refusals::Refusal;
 use segment_index::Index;
@@ -120,7 +121,7 @@ impl<D: Disk, X: Index> Copies for LentCopies<'_, D, X> {
     }
 
     fn read(&mut self, place: &Place, digest: &[u8; 32], buf: &mut [u8]) -> Result<(), ScanFault> {
-        match read_copy(self.disk, place, digest, buf) {
+        match read_copy(self.disk, &mut Afresh, place, digest, buf) {
             Ok(()) => Ok(()),
             Err(refusal) => Err(fault_of(refusal)),
         }

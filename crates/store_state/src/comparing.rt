@@ -24,14 +24,16 @@ use crate::indexing::find;
 use container_log::{LogFault, Spot, read_segment};
 use container_meta::{Kind, OpenContainer, Place, key_of};
 use dd_disk::Disk;
+use digests::{Afresh, TakesDigests};
 use refusals::{Difference, Refusal};
 use segment_index::Index;
 use std::alloc::Global;
 
 /// Reads the copy at a place into the first bytes of `buf`. Refused by `DiskRead`, or by `Corrupt` where the bytes that are read
 /// have another digest.
-pub fn read_copy<D: Disk>(
+pub fn read_copy<D: Disk, H: TakesDigests>(
     disk: &mut D,
+    digests: &mut H,
     place: &Place,
     digest: &[u8; 32],
     buf: &mut [u8],
@@ -51,7 +53,7 @@ pub fn read_copy<D: Disk>(
         length: place.length,
         digest: *digest,
     };
-    match read_segment(disk, &spot, buf) {
+    match read_segment(disk, digests, &spot, buf) {
         Ok(()) => Ok(()),
         Err(
             LogFault::Corrupt {
@@ -138,7 +140,7 @@ fn same_node<D: Disk>(
     ensures reads { Reads (ending blames result) (D.view disk.old) (D.view disk.new) }
     ensures refused { IfErr result (IsNodeRefusal (Shows (D.view disk.old) (D.view disk.new)) Tree digest.now offered.now place.now) }
 {
-    read_copy(disk, place, digest, buf)?;
+    read_copy(disk, &mut Afresh, place, digest, buf)?;
     same_bytes(Kind::Tree, digest, offered, &buf[..place.length as usize])
 }
 

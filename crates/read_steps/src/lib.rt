@@ -1,6 +1,7 @@
 //! The steps of an actor that is given a file: the root of its name, and then its segments in order; and a store's counts and names.
 #![tactic(auto)]
 
+mod ahead;
 mod counting;
 mod distinct;
 mod laws;
@@ -13,6 +14,7 @@ mod trees;
 mod visiting;
 mod walking;
 
+pub use ahead::ReadAhead;
 pub use counting::{list, stat};
 pub use distinct::unique;
 pub use laws::readers_go_on;

@@ -18,6 +18,7 @@ use crate::opening::begin_walk;
 use crate::walking::next_segment;
 use actor_parts::{Actor, Part, Parts, Reader, SegBuf};
 use dd_disk::Disk;
+use digests::TakesDigests;
 use namespace::Names;
 use refusals::{PartKind, Refusal};
 use segment_index::Index;
@@ -56,9 +57,10 @@ pub fn open_read(
 ///
 /// Refusals: `WrongPart` where the actor takes no file, then those of `next_segment`. After each the actor takes the file
 /// from where it was.
-pub fn read_next<D: Disk, X: Index>(
+pub fn read_next<D: Disk, X: Index, H: TakesDigests>(
     disk: &mut D,
     index: &mut X,
+    digests: &mut H,
     parts: &mut Parts,
     actor: Actor,
     buf: &mut SegBuf,
@@ -85,7 +87,7 @@ pub fn read_next<D: Disk, X: Index>(
 {
     match parts.take(actor) {
         Part::Reading(mut reader) => {
-            let answer = next_segment(disk, index, &mut reader.cursor, buf.bytes_mut());
+            let answer = next_segment(disk, index, digests, &mut reader.cursor, buf.bytes_mut());
             parts.set(actor, Part::Reading(reader));
             answer
         }

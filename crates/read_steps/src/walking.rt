@@ -20,6 +20,7 @@ ghost use Rattle.read_steps.specs.Walking.{AsksIndex, IsAnswer, IsHeldAnswer, Is
 
 use container_meta::{Key, Kind, Place, key_of};
 use dd_disk::Disk;
+use digests::{Afresh, TakesDigests};
 use disk_format::{Why, data_at};
 use merkle_file::{Cursor, Hash, Want};
 use refusals::Refusal;
@@ -53,9 +54,10 @@ pub(crate) fn find_place<D: Disk, X: Index>(
 }
 
 // The bytes of a key, read into the front of a buffer, and their place.
-fn read_newest<D: Disk, X: Index>(
+fn read_newest<D: Disk, X: Index, H: TakesDigests>(
     disk: &mut D,
     index: &mut X,
+    digests: &mut H,
     kind: Kind,
     digest: &Hash,
     buf: &mut [u8],
@@ -73,7 +75,7 @@ fn read_newest<D: Disk, X: Index>(
     ensures reads { Reads (ending blames result) (D.view disk.old) (D.view disk.new) }
 {
     let place = find_place(disk, index, &key_of(kind, digest))?;
-    read_copy(disk, &place, digest, buf)?;
+    read_copy(disk, digests, &place, digest, buf)?;
     Ok(place)
 }
 
@@ -112,7 +114,7 @@ pub(crate) fn open_node<D: Disk, X: Index>(
         (X.breaks index.old) (X.breaks index.new) (ending blames result) (D.view disk.old) (D.view disk.new) }
     ensures served { X.serves index.new (D.view disk.new).size }
 {
-    let place = read_newest(disk, index, Kind::Tree, digest, buf)?;
+    let place = read_newest(disk, index, &mut Afresh, Kind::Tree, digest, buf)?;
     match cursor.feed(&buf[..place.length as usize]) {
         Ok(()) => Ok(place),
         Err(fault) => Err(damaged(&place, fault.offset, fault.got)),
@@ -145,9 +147,10 @@ fn open_nodes<D: Disk, X: Index>(
 }
 
 // Reads the segment of a digest, which has to have a length.
-fn read_leaf<D: Disk, X: Index>(
+fn read_leaf<D: Disk, X: Index, H: TakesDigests>(
     disk: &mut D,
     index: &mut X,
+    digests: &mut H,
     digest: &Hash,
     named: u64,
     buf: &mut [u8],
@@ -164,7 +167,7 @@ fn read_leaf<D: Disk, X: Index>(
     ensures served { X.serves index.new (D.view disk.new).size }
     ensures reads { Reads (ending blames result) (D.view disk.old) (D.view disk.new) }
 {
-    let place = read_newest(disk, index, Kind::Leaf, digest, buf)?;
+    let place = read_newest(disk, index, digests, Kind::Leaf, digest, buf)?;
     let got = u64::from(place.length);
     if got != named {
         return Err(damaged(&place, 0, got));
@@ -179,9 +182,10 @@ fn read_leaf<D: Disk, X: Index>(
 /// the index that break its form; `Missing` where the index has no such key; `Corrupt` where the bytes that are read have
 /// another digest; `Damaged` where they have it and aren't what was named: a node by its first wrong field, a segment by its
 /// length. After each the walk goes on where it was.
-pub fn next_segment<D: Disk, X: Index>(
+pub fn next_segment<D: Disk, X: Index, H: TakesDigests>(
     disk: &mut D,
     index: &mut X,
+    digests: &mut H,
     cursor: &mut Cursor,
     buf: &mut [u8],
 ) -> Result<Option<u32>, Refusal>
@@ -205,7 +209,7 @@ pub fn next_segment<D: Disk, X: Index>(
     open_nodes(disk, index, cursor, buf)?;
     match cursor.want() {
         Want::Leaf { digest, length, .. } => {
-            let count = read_leaf(disk, index, &digest, length, buf)?;
+            let count = read_leaf(disk, index, digests, &digest, length, buf)?;
             cursor.pass();
             Ok(Some(count))
         }

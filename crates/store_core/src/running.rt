@@ -17,10 +17,11 @@ use crate::stop::Stop;
 use actor_parts::{Actor, Answer, Parts, Percent, SegBuf, Step};
 use container_meta::{OpenContainer, Seg};
 use dd_disk::Disk;
+use digests::{Afresh, TakesDigests};
 use gc_steps::{Collection, StepDone, phase_of, start, step};
 use ingest_steps::{Claimed, abort, begin, claim, commit, delete, room_for, seal_together};
 use namespace::Root;
-use read_steps::{end_read, list, open_read, read_next, stat, unique};
+use read_steps::{ReadAhead, end_read, list, open_read, read_next, stat, unique};
 use refusals::{PartKind, Refusal};
 use segment_index::{Index, StoreIndex};
 use std::alloc::Global;
@@ -68,6 +69,19 @@ impl<D: Disk, M: Summary> HasState for Core<D, M> {
         buf: &mut SegBuf,
     ) -> Result<Answer, Refusal> {
         self.step(actor, step, buf)
+    }
+
+    fn look_ahead(&self, ahead: &mut ReadAhead, actor: Actor, buf: &mut SegBuf) -> bool {
+        self.look_ahead(ahead, actor, buf)
+    }
+
+    fn read_ahead(
+        &mut self,
+        ahead: &mut ReadAhead,
+        actor: Actor,
+        buf: &mut SegBuf,
+    ) -> Result<Answer, Refusal> {
+        self.read_ahead(ahead, actor, buf)
     }
 
     fn reopen(&mut self) -> Result<(), Refusal> {
@@ -220,7 +234,12 @@ impl<D: Disk, M: Summary> Core<D, M> {
         }
     }
 
-    fn read_next(&mut self, actor: Actor, buf: &mut SegBuf) -> Result<Answer, Refusal>
+    fn read_next<H: TakesDigests>(
+        &mut self,
+        digests: &mut H,
+        actor: Actor,
+        buf: &mut SegBuf,
+    ) -> Result<Answer, Refusal>
         requires up { IsUp (⟦<Core<D, M> as HasState>⟧.state self.old) }
         ensures made { MadeBefore asked.ReadNext actor result buf.new (⟦<Core<D, M> as HasState>⟧.state self.old)
             (⟦<Core<D, M> as HasState>⟧.state self.new) }
@@ -228,7 +247,14 @@ impl<D: Disk, M: Summary> Core<D, M> {
         ensures count { self.new.acknowledged ≡ self.old.acknowledged }
         ensures collection { self.new.collection ≡ self.old.collection }
     {
-        match read_next(&mut self.disk, &mut self.index, &mut self.parts, actor, buf) {
+        match read_next(
+            &mut self.disk,
+            &mut self.index,
+            digests,
+            &mut self.parts,
+            actor,
+            buf,
+        ) {
             Ok(given) => match given {
                 Some(count) => Ok(Answer::Bytes { count }),
                 None => Ok(Answer::End),
@@ -433,7 +459,13 @@ impl<D: Disk, M: Summary> Core<D, M> {
     }
 
     // Makes a step of a core that isn't stopped.
-    fn make(&mut self, actor: Actor, step: Step<'_>, buf: &mut SegBuf) -> Result<Answer, Refusal>
+    fn make<H: TakesDigests>(
+        &mut self,
+        digests: &mut H,
+        actor: Actor,
+        step: Step<'_>,
+        buf: &mut SegBuf,
+    ) -> Result<Answer, Refusal>
         requires asked { IsStep (step_value step) }
         requires up { IsUp (⟦<Core<D, M> as HasState>⟧.state self.old) }
         ensures made { MadeBefore (step_value step.entry) actor result buf.new (⟦<Core<D, M> as HasState>⟧.state self.old)
@@ -450,7 +482,7 @@ impl<D: Disk, M: Summary> Core<D, M> {
             Step::Commit { name, root } => self.commit(actor, name, root),
             Step::Abort => self.abort(actor),
             Step::OpenRead { name } => self.open_read(actor, name),
-            Step::ReadNext => self.read_next(actor, buf),
+            Step::ReadNext => self.read_next(digests, actor, buf),
             Step::EndRead => self.end_read(actor),
             Step::Delete { name } => self.delete(actor, name),
             Step::List => self.list(actor),
@@ -459,6 +491,33 @@ impl<D: Disk, M: Summary> Core<D, M> {
             Step::Stat => Ok(self.stat()),
             Step::Unique => self.unique(actor, buf),
         }
+    }
+
+    // Makes a step of an actor, with these digests of what is read.
+    fn step_with<H: TakesDigests>(
+        &mut self,
+        digests: &mut H,
+        actor: Actor,
+        step: Step<'_>,
+        buf: &mut SegBuf,
+    ) -> Result<Answer, Refusal>
+        requires asked { IsStep (step_value step) }
+        requires running { IsRunning (⟦<Core<D, M> as HasState>⟧.state self.old) }
+        ensures step { CoreStep (⟦<Core<D, M> as HasState>⟧.state self.old)
+            (record { actor = actor; step = step_value step.entry; answer = result; buf = buf.new })
+            (⟦<Core<D, M> as HasState>⟧.state self.new) }
+        ensures stopped { IfSome (⟦<Core<D, M> as HasState>⟧.state self.old).stop (λ stop. (result ≡ Err (Stopped stop.at))
+            × IsSame (⟦<Core<D, M> as HasState>⟧.state self.old) (⟦<Core<D, M> as HasState>⟧.state self.new)
+            × (buf.new ≡ buf.old)) }
+        ensures running { IsRunning (⟦<Core<D, M> as HasState>⟧.state self.new) }
+    {
+        if let Some(stop) = &self.stop {
+            return Err(Refusal::Stopped { at: stop.at });
+        }
+        let answer = self.make(digests, actor, step, buf);
+        self.stop = stop_after(&step, &answer, self.acknowledged);
+        self.acknowledged = count_after(&answer, self.acknowledged);
+        answer
     }
 
     /// Makes a step of an actor. docs/MODEL.md, 'The core', has the table of steps: what each does, answers and is refused by.
@@ -481,13 +540,28 @@ impl<D: Disk, M: Summary> Core<D, M> {
             × (buf.new ≡ buf.old)) }
         ensures running { IsRunning (⟦<Core<D, M> as HasState>⟧.state self.new) }
     {
-        if let Some(stop) = &self.stop {
-            return Err(Refusal::Stopped { at: stop.at });
-        }
-        let answer = self.make(actor, step, buf);
-        self.stop = stop_after(&step, &answer, self.acknowledged);
-        self.acknowledged = count_after(&answer, self.acknowledged);
-        answer
+        self.step_with(&mut Afresh, actor, step, buf)
+    }
+
+    /// Reads ahead of an actor that is given a file, where it was given all that was read ahead before, and answers whether it did.
+    pub fn look_ahead(&self, ahead: &mut ReadAhead, actor: Actor, buf: &mut SegBuf) -> bool {
+        ahead.look_ahead(self.alloc, &self.disk, &self.index, &self.parts, actor, buf)
+    }
+
+    /// Makes the step `ReadNext` of an actor, with the digests of what was read ahead.
+    pub fn read_ahead(
+        &mut self,
+        ahead: &mut ReadAhead,
+        actor: Actor,
+        buf: &mut SegBuf,
+    ) -> Result<Answer, Refusal>
+        requires running { IsRunning (⟦<Core<D, M> as HasState>⟧.state self.old) }
+        ensures step { CoreStep (⟦<Core<D, M> as HasState>⟧.state self.old)
+            (record { actor = actor; step = asked.ReadNext; answer = result; buf = buf.new })
+            (⟦<Core<D, M> as HasState>⟧.state self.new) }
+        ensures running { IsRunning (⟦<Core<D, M> as HasState>⟧.state self.new) }
+    {
+        self.step_with(ahead, actor, Step::ReadNext, buf)
     }
 
     /// Whether it runs. The refusal is that of each step once it is stopped, with how many puts and deletes had been acknowledged.

@@ -3,12 +3,14 @@ ghost use Rattle.std.specs.Prelude.{◌≡◌, ◌-◌, ◌^◌, Bool, IfErr, On
 ghost use Rattle.summary_vector.specs.Banks.{Banks};
 ghost use Rattle.actor_parts.specs.Kinds.{kind_of};
 ghost use Rattle.actor_parts.specs.Parts.{part_of};
+ghost use Rattle.actor_parts.specs.StepValue as asked;
 ghost use Rattle.actor_parts.specs.StepValue.{IsStep, step_value};
 ghost use Rattle.store_core.specs.Core.{CoreStep};
 ghost use Rattle.store_core.specs.Opening.{OpensCore, OpensNone, StaysOrStops};
 ghost use Rattle.store_core.specs.State.{CoreState, IsRunning, IsStopped};
 
 use actor_parts::{Actor, Answer, SegBuf, Step};
+use read_steps::ReadAhead;
 use refusals::{PartKind, Refusal};
 
 /// What has a state, makes steps and is opened again, as a core.
@@ -33,6 +35,21 @@ pub trait HasState {
         requires running { IsRunning (state self.old) }
         ensures step { CoreStep (state self.old)
             (record { actor = actor; step = step_value step.entry; answer = result; buf = buf.new }) (state self.new) }
+        ensures running { IsRunning (state self.new) };
+
+    /// Reads ahead of an actor that is given a file, where it was given all that was read ahead before, and answers whether it did.
+    fn look_ahead(&self, ahead: &mut ReadAhead, actor: Actor, buf: &mut SegBuf) -> bool;
+
+    /// Makes the step `ReadNext` of an actor, with the digests of what was read ahead.
+    fn read_ahead(
+        &mut self,
+        ahead: &mut ReadAhead,
+        actor: Actor,
+        buf: &mut SegBuf,
+    ) -> Result<Answer, Refusal>
+        requires running { IsRunning (state self.old) }
+        ensures step { CoreStep (state self.old)
+            (record { actor = actor; step = asked.ReadNext; answer = result; buf = buf.new }) (state self.new) }
         ensures running { IsRunning (state self.new) };
 
     /// Opens the store on its disk again, in place, and makes room where it has to. The refusals are those of an opening. Where nothing

@@ -1,6 +1,6 @@
 use Rattle.store_core.proofs.Prelude.{ℕ, refl, ◌∙◌, ap, subst, step_value, StopsAfter, counted}
 use Rattle.store_core.proofs.Making.{collects_same, core_runs}
-use Rattle.store_core.proofs.running.Core.step.Goals as goal
+use Rattle.store_core.proofs.running.Core.step_with.Goals as goal
 
 pub returns-clause-running : goal.returns-clause-running
 returns-clause-running g c =

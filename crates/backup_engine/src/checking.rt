@@ -10,6 +10,7 @@ use inspection::{Damage, SpellsDamage};
 use recovery::{Uninspected, inspect};
 use reply_text::{Ending, write_checked, write_damage};
 use std::alloc::Global;
+use std::thread::Threads;
 
 /// Each damage has a line.
 struct DamageLines;
@@ -24,7 +25,8 @@ impl SpellsDamage for DamageLines {
 
 /// Inspects all of the disk, and writes a line for each damage as it is found, and then how much was seen. It answers the exit status: 0,
 /// or 7 where anything breaks the format.
-pub(crate) fn check<D: Disk, K: Sink>(
+pub(crate) fn check<D: Disk, K: Sink, R: Threads + Sync>(
+    rt: &R,
     alloc: Global,
     disk: &mut D,
     sink: &mut K,
@@ -32,7 +34,7 @@ pub(crate) fn check<D: Disk, K: Sink>(
     ensures checks { Checks result (D.view disk.old) (D.view disk.new) (K.view sink.old) (K.view sink.new) }
     ensures reads { Reads (disk_ending (cause_in result)) (D.view disk.old) (D.view disk.new) }
 {
-    let tally = match inspect::<D, K, DamageLines>(alloc, disk, sink) {
+    let tally = match inspect::<D, K, DamageLines, R>(rt, alloc, disk, sink) {
         Ok(tally) => tally,
         Err(Uninspected::Refused(refusal)) => return Err(Ending::Refused(refusal)),
         Err(Uninspected::Untaken) => return Err(Ending::Sink),

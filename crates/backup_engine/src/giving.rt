@@ -6,11 +6,29 @@ ghost use Rattle.backup_engine.specs.Running.{IsFresh, GiveRun};
 use crate::putting::first;
 use actor_parts::{Answer, SegBuf, Step};
 use dd_io::Sink;
+use read_steps::ReadAhead;
 use reply_text::Ending;
+use std::alloc::Global;
+use std::thread::Threads;
 use store_core::HasState;
 
-/// Gives the file of a name to a sink, segment by segment.
-pub(crate) fn give_out<C: HasState, K: Sink>(
+// Reads segments ahead, where all that were read ahead were given, and takes their digests.
+fn look_ahead<C: HasState, R: Threads + Sync>(
+    rt: &R,
+    alloc: Global,
+    core: &C,
+    ahead: &mut ReadAhead,
+    buf: &mut SegBuf,
+) {
+    if core.look_ahead(ahead, first(), buf) {
+        ahead.take_digests(rt, alloc);
+    }
+}
+
+/// Gives the file of a name to a sink, segment by segment, which are read ahead, so that several threads take their digests.
+pub(crate) fn give_out<C: HasState, K: Sink, R: Threads + Sync>(
+    rt: &R,
+    alloc: Global,
     core: &mut C,
     name: &str,
     buf: &mut SegBuf,
@@ -24,8 +42,10 @@ pub(crate) fn give_out<C: HasState, K: Sink>(
         name: name.as_bytes(),
     };
     core.make_step(first(), step, buf)?;
+    let mut ahead = ReadAhead::new(alloc);
     loop {
-        let Answer::Bytes { count } = core.make_step(first(), Step::ReadNext, buf)? else {
+        look_ahead(rt, alloc, &*core, &mut ahead, buf);
+        let Answer::Bytes { count } = core.read_ahead(&mut ahead, first(), buf)? else {
             return Ok(());
         };
         if sink.write_all(&buf.bytes()[..count as usize]).is_err() {

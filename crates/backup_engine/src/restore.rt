@@ -17,11 +17,13 @@ use dd_io::Sink;
 use refusals::Refusal;
 use reply_text::Ending;
 use std::alloc::Global;
+use std::thread::Threads;
 use store_core::Core;
 use summary_vector::NoSummary;
 
 /// Gives the file of a name to a sink.
-pub(crate) fn restore<D: Disk, K: Sink>(
+pub(crate) fn restore<D: Disk, K: Sink, R: Threads + Sync>(
+    rt: &R,
     alloc: Global,
     disk: &mut D,
     sink: &mut K,
@@ -44,7 +46,7 @@ pub(crate) fn restore<D: Disk, K: Sink>(
             return Err(Ending::Refused(refusal));
         }
     };
-    let given = give_out(&mut core, name, &mut buf, sink);
+    let given = give_out(rt, alloc, &mut core, name, &mut buf, sink);
     let _disk = core.close();
     given
 }

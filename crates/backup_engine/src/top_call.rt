@@ -82,7 +82,7 @@ pub fn backup<
 }
 
 /// `backup` for the commands that wait for nothing but threads that take digests, so that it always returns: the words of `work` are no
-/// line of the table here. These threads, of `ingest`, have ended before it returns.
+/// line of the table here. These threads, of `ingest`, `restore` and `check`, have ended before it returns.
 pub fn backup_alone<R: Threads + Sync, D: Disk + Send, S: Source, K: Sink, Q: Sink>(
     rt: &R,
     alloc: Global,
@@ -153,7 +153,7 @@ fn run_alone<D: Disk + Send, S: Source, K: Sink, Q: Sink, R: Threads + Sync>(
             run_command(rt, alloc, command, disk, source, sink),
         ),
         Line::Run => conclude(notes, run(alloc, disk, source, sink)),
-        Line::Check => check_disk(alloc, disk, sink, notes),
+        Line::Check => check_disk(rt, alloc, disk, sink, notes),
         Line::Work(_) => give_up(notes, &Ending::Words),
     }
 }
@@ -176,7 +176,7 @@ fn run_command<D: Disk, S: Source, K: Sink, R: Threads + Sync>(
     match command {
         Command::Format(slots) => format(alloc, disk, sink, *slots),
         Command::Ingest(name) => ingest(rt, alloc, disk, source, sink, name),
-        Command::Restore(name) => restore(alloc, disk, sink, name),
+        Command::Restore(name) => restore(rt, alloc, disk, sink, name),
         Command::Delete(name) => delete(alloc, disk, sink, name),
         Command::List => list(alloc, disk, sink),
         Command::Collect(percent) => collect(alloc, disk, sink, *percent),
@@ -184,7 +184,8 @@ fn run_command<D: Disk, S: Source, K: Sink, R: Threads + Sync>(
 }
 
 // Inspects the disk.
-fn check_disk<D: Disk, K: Sink, Q: Sink>(
+fn check_disk<D: Disk, K: Sink, Q: Sink, R: Threads + Sync>(
+    rt: &R,
     alloc: Global,
     disk: &mut D,
     sink: &mut K,
@@ -202,7 +203,7 @@ fn check_disk<D: Disk, K: Sink, Q: Sink>(
     }) }
     ensures later { IsLater (D.view disk.old) (D.view disk.new) }
 {
-    match check(alloc, disk, sink) {
+    match check(rt, alloc, disk, sink) {
         Ok(status) => status,
         Err(ending) => give_up(notes, &ending),
     }

@@ -55,8 +55,8 @@ returns-in-Err g c =
           (later_back _ _ (view c.args.disk.now) w (sym (rest_same _ _ _ _ later.loans_are)) later);
     }
 
-pub give_out-given-requires : goal.give_out-given-requires
-give_out-given-requires g c = record { fresh = opened_fresh _ _ _ _ c.in-Ok-open.ensures.opened c.in-Ok-open.ensures.running }
+pub give_out-given-requires-clause-fresh : goal.give_out-given-requires-clause-fresh
+give_out-given-requires-clause-fresh g c κs outlives = opened_fresh _ _ _ _ c.in-Ok-open.ensures.opened c.in-Ok-open.ensures.running
 
 -- it was
 pub returns : goal.returns

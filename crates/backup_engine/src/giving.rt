@@ -42,10 +42,10 @@ pub(crate) fn give_out<C: HasState, K: Sink, R: Threads + Sync>(
         name: name.as_bytes(),
     };
     core.make_step(first(), step, buf)?;
-    let mut ahead = ReadAhead::new(alloc);
+    let mut ahead = ReadAhead::new(rt, alloc);
     loop {
         look_ahead(rt, alloc, &*core, &mut ahead, buf);
-        let Answer::Bytes { count } = core.read_ahead(&mut ahead, first(), buf)? else {
+        let Answer::Bytes { count } = core.next_ahead(&mut ahead, first(), buf)? else {
             return Ok(());
         };
         if sink.write_all(&buf.bytes()[..count as usize]).is_err() {

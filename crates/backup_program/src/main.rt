@@ -1,9 +1,6 @@
 //! The program `ddfs PATH COMMAND ..`: the top call over a file and the standard streams.
 #![tactic(auto)]
 
-mod image;
-
-use crate::image::ImageDisk;
 use backup_engine::{backup, size_of_format};
 use dd_disk::FileDisk;
 use dd_io::{Source, StdSink, StdSource};
@@ -61,7 +58,7 @@ fn run<R: Threads + Wait + Sync>(rt: &HostRuntime, threads: &R) -> Result<u8, Fa
     let (path, command) = words.split_first().ok_or(Failure::Words)?;
     let _held = hold_streams(rt)?;
     let input = BufReader::with_capacity(rt.alloc(), READ_AHEAD, rt.stdin()).map_err(failure_of)?;
-    let mut disk = ImageDisk::new(open_disk(rt, path.as_str(), command)?);
+    let mut disk = open_disk(rt, path.as_str(), command)?;
     let mut source = StdSource::new(input);
     Ok(run_command(rt, threads, command, &mut disk, &mut source))
 }
@@ -144,7 +141,7 @@ fn run_command<S: Source, R: Threads + Wait + Sync>(
     rt: &HostRuntime,
     threads: &R,
     command: &[String],
-    disk: &mut ImageDisk,
+    disk: &mut FileDisk,
     source: &mut S,
 ) -> u8 {
     let mut sink = StdSink::new(rt.stdout());

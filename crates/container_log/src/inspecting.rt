@@ -29,13 +29,12 @@ ghost use Rattle.container_log.specs.Inspecting.{
 
 use crate::ahead::look_ahead;
 use crate::reading::why_of;
-use crate::slot::read_gate;
-use base_model::part;
+use crate::slot::{copy_in, read_gate};
 use container_meta::{Entry, MetaFault, decode_into};
 use dd_disk::{Disk, DiskFault, read_at};
 use dd_io::Sink;
 use digests::{Ahead, TakesDigests};
-use disk_format::{CONTAINER_GATE, HEADER_BYTES, MOST_ENTRIES, SLOT_BYTES, Why, slot_at};
+use disk_format::{CONTAINER_GATE, MOST_ENTRIES, SLOT_BYTES, Why, slot_at};
 use inspection::{Damage, Halt, SpellsDamage, Tally, add_cell, add_copy};
 use std::alloc::Global;
 use std::thread::Threads;
@@ -53,8 +52,7 @@ fn copy_damage<H: TakesDigests>(
     requires within { entry.now.offset + entry.now.length ≤ DATA_BYTES }
     ensures { result ≡ damage_of_copy slot entry.now (sha256 (copy_bytes entry.now bytes.now)) }
 {
-    let from = HEADER_BYTES as usize + entry.offset as usize;
-    let got = digests.digest(part(bytes, from, entry.length as usize));
+    let got = digests.digest(copy_in(entry, bytes));
     if entry.digest == got {
         return None;
     }

@@ -2,7 +2,8 @@
 ghost use Rattle.std.specs.Prelude.{◌≡◌, IfSome};
 ghost use Rattle.sha2.specs.Sha256.{sha256};
 
-use crate::at_once::digests;
+use crate::at_once::digests_in;
+use crate::texts::{Span, text};
 use sha2::{Digest, Sha256};
 use std::alloc::{AllocError, Global};
 use std::marker::Model;
@@ -29,12 +30,13 @@ impl TakesDigests for Afresh {
 /// than those whose turn it is, is taken afresh: so it gives the right one of any bytes, and contracts see nothing of it.
 #[derive(Drop)]
 pub struct Ahead {
-    /// The first `count` of these are the byte strings; the others are buffers that are used again.
-    texts: Vec<Vec<u8>>,
-    count: usize,
-    /// Those of the first texts.
+    /// The byte strings, one behind the other.
+    bytes: Vec<u8>,
+    /// Where each of them lies.
+    spans: Vec<Span>,
+    /// Those of the first of them: of all once they were taken, and of none before.
     digests: Vec<[u8; 32]>,
-    /// The first text that was not asked for.
+    /// The first that was not asked for.
     next: usize,
 }
 
@@ -45,7 +47,7 @@ impl Model for Ahead {
 
     ghost view = { λ a. tt };
 
-    ghost invariant = { λ a. AreTaken a.count a.texts.items a.digests.items };
+    ghost invariant = { λ a. AreTaken a.bytes.items a.spans.items a.digests.items };
 }
 
 impl TakesDigests for Ahead {
@@ -63,18 +65,18 @@ impl Ahead {
     /// No bytes. It takes no memory.
     pub fn new(alloc: Global) -> Ahead {
         Ahead {
-            texts: Vec::new(alloc),
-            count: 0,
+            bytes: Vec::new(alloc),
+            spans: Vec::new(alloc),
             digests: Vec::new(alloc),
             next: 0,
         }
     }
 
-    // The digest of these bytes, where they are the text that comes next.
+    // The digest of these bytes, where they are those that come next.
     fn known(&self, bytes: &[u8]) -> Option<[u8; 32]>
         ensures { IfSome result (λ digest. digest ≡ sha256 bytes.now) }
     {
-        if self.next < self.digests.len() && self.texts[self.next].as_slice() == bytes {
+        if self.next < self.digests.len() && text(&self.bytes, self.spans[self.next]) == bytes {
             return Some(self.digests[self.next]);
         }
         None
@@ -87,29 +89,26 @@ impl Ahead {
 
     /// How many byte strings there are.
     pub fn len(&self) -> usize {
-        self.count
+        self.spans.len()
     }
 
     /// Forgets all, but for the memory.
     pub fn clear(&mut self) {
         self.digests.clear();
-        self.count = 0;
+        self.spans.clear();
+        self.bytes.clear();
         self.next = 0;
     }
 
     /// One byte string more, whose digest is not taken yet, and no digest of the others. It fails for want of memory alone.
-    pub fn add(&mut self, alloc: Global, bytes: &[u8]) -> Result<(), AllocError> {
+    pub fn add(&mut self, bytes: &[u8]) -> Result<(), AllocError> {
         self.digests.clear();
-        if self.count < self.texts.len() {
-            let text = &mut self.texts[self.count];
-            text.clear();
-            text.extend_from_slice(bytes)?;
-        } else {
-            let mut text = Vec::new(alloc);
-            text.extend_from_slice(bytes)?;
-            self.texts.push(text)?;
-        }
-        self.count += 1;
+        let from = self.bytes.len();
+        self.bytes.extend_from_slice(bytes)?;
+        self.spans.push(Span {
+            from,
+            count: bytes.len(),
+        })?;
         Ok(())
     }
 
@@ -117,7 +116,7 @@ impl Ahead {
     pub fn take(&mut self, rt: &(impl Threads + Sync), alloc: Global) -> Result<(), AllocError> {
         self.next = 0;
         self.digests.clear();
-        self.digests = digests(rt, alloc, &self.texts[..self.count])?;
+        self.digests = digests_in(rt, alloc, &self.bytes, &self.spans)?;
         Ok(())
     }
 }

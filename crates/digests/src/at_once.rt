@@ -1,7 +1,9 @@
 //! The digests of many byte strings at once, by several threads.
 ghost use Rattle.std.specs.Prelude.{◌≡◌, map, IfOk};
 ghost use Rattle.sha2.specs.Sha256.{sha256};
+ghost use Rattle.digests.specs.Texts.{text_in};
 
+use crate::texts::{Span, text};
 use rayon::current_num_threads;
 use rayon::prelude::*;
 use sha2::{Digest, Sha256};
@@ -10,6 +12,18 @@ use std::thread::Threads;
 
 /// A thread gets no fewer segments than this: to start it costs about as much as the digests of two or three of the usual length.
 const LEAST_PIECE: usize = 15;
+/// Threads are started for no fewer byte strings than this.
+pub const LEAST_AT_ONCE: usize = 2 * LEAST_PIECE;
+
+/// Whether several threads take digests: with one processor alone each would only take the turn of another.
+pub fn has_threads(rt: &impl Threads) -> bool {
+    current_num_threads(rt) > 1
+}
+
+// How many of so many byte strings a thread gets at least.
+fn least_piece(rt: &impl Threads, count: usize) -> usize {
+    if has_threads(rt) { LEAST_PIECE } else { count }
+}
 
 /// The SHA-256 (FIPS 180-4) of each segment, in their order, as one thread would take them. Threads are started where there are
 /// 30 or more and more than one processor, two for each at most, and are joined before it returns. It fails for want of memory alone.
@@ -20,12 +34,6 @@ pub fn digests(
 ) -> Result<Vec<[u8; 32]>, AllocError>
     ensures { IfOk result (λ all. all.items ≡ map (λ s. sha256 s.items) segments.now) }
 {
-    // With one processor a thread more would only take its turn.
-    let least = if current_num_threads(rt) < 2 {
-        segments.len()
-    } else {
-        LEAST_PIECE
-    };
     segments
         .par_iter()
         .map(
@@ -33,6 +41,26 @@ pub fn digests(
                 ensures { result ≡ sha256 segment.now.items }
             { Sha256::digest(segment.as_slice()) },
         )
-        .with_min_len(least)
+        .with_min_len(least_piece(rt, segments.len()))
+        .collect(rt, alloc)
+}
+
+/// The same of byte strings that lie in one buffer.
+pub(crate) fn digests_in(
+    rt: &(impl Threads + Sync),
+    alloc: Global,
+    bytes: &[u8],
+    spans: &[Span],
+) -> Result<Vec<[u8; 32]>, AllocError>
+    ensures { IfOk result (λ all. all.items ≡ map (λ s. sha256 (text_in bytes.now s)) spans.now) }
+{
+    spans
+        .par_iter()
+        .map(
+            |span: &Span| -> [u8; 32]
+                ensures { result ≡ sha256 (text_in bytes.entry.now span.now) }
+            { Sha256::digest(text(bytes, *span)) },
+        )
+        .with_min_len(least_piece(rt, spans.len()))
         .collect(rt, alloc)
 }

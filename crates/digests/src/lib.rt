@@ -3,6 +3,7 @@
 
 mod ahead;
 mod at_once;
+mod texts;
 
 pub use ahead::{Afresh, Ahead, TakesDigests};
-pub use at_once::digests;
+pub use at_once::{LEAST_AT_ONCE, digests, has_threads};

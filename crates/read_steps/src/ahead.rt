@@ -7,8 +7,8 @@ use crate::opening::top_of;
 use actor_parts::{Actor, Part, Parts, SegBuf};
 use container_meta::{Key, Kind, key_of};
 use dd_disk::Disk;
-use digests::{Ahead, TakesDigests};
-use disk_format::data_at;
+use digests::{Ahead, LEAST_AT_ONCE, TakesDigests, has_threads};
+use disk_format::{MOST_SEGMENT, data_at};
 use merkle_file::{Cursor, Hash, Want};
 use namespace::Root;
 use segment_index::StoreIndex;
@@ -17,6 +17,8 @@ use std::thread::Threads;
 
 /// So many nodes and segments are read ahead at most.
 const MOST_AHEAD: usize = 1_024;
+/// A file of fewer bytes may have too few segments for threads.
+const LEAST_LENGTH: u64 = LEAST_AT_ONCE as u64 * MOST_SEGMENT;
 
 /// A walk down a file, ahead of its reader.
 #[derive(Drop)]
@@ -25,7 +27,7 @@ enum Walk {
     Before,
     /// It goes on here.
     On(Cursor),
-    /// It came to the end or to what it can't go on from, or there was no memory.
+    /// It came to the end or to what it can't go on from, or there was no memory; or it would not pay.
     Over,
 }
 
@@ -72,7 +74,6 @@ fn open_node<D: Disk>(
 
 // Adds the segment that comes first on a walk, and passes it; it answers whether it could.
 fn add_segment<D: Disk>(
-    alloc: Global,
     disk: &D,
     index: &StoreIndex,
     digests: &mut Ahead,
@@ -87,12 +88,11 @@ fn add_segment<D: Disk>(
         return false;
     };
     cursor.skip();
-    digests.add(alloc, &buf[..count]).is_ok()
+    digests.add(&buf[..count]).is_ok()
 }
 
 // Goes on by so many nodes and segments, and adds the segments. It answers whether it came so far.
 fn add_segments<D: Disk>(
-    alloc: Global,
     disk: &D,
     index: &StoreIndex,
     digests: &mut Ahead,
@@ -104,9 +104,7 @@ fn add_segments<D: Disk>(
     for _ in 0..MOST_AHEAD {
         let passed = match cursor.want() {
             Want::Node { digest, .. } => open_node(disk, index, cursor, &digest, buf),
-            Want::Leaf { digest, .. } => {
-                add_segment(alloc, disk, index, digests, cursor, &digest, buf)
-            }
+            Want::Leaf { digest, .. } => add_segment(disk, index, digests, cursor, &digest, buf),
             Want::End => false,
         };
         if !passed {
@@ -116,8 +114,11 @@ fn add_segments<D: Disk>(
     true
 }
 
-// A walk down a file from its beginning; there is none where there is no memory.
+// A walk down a file from its beginning; there is none where it would not pay, or there is no memory.
 fn walk_from(alloc: Global, root: &Root) -> Walk {
+    if root.length < LEAST_LENGTH {
+        return Walk::Over;
+    }
     match Cursor::new(alloc, &top_of(root)) {
         Ok(cursor) => Walk::On(cursor),
         Err(_) => Walk::Over,
@@ -125,10 +126,14 @@ fn walk_from(alloc: Global, root: &Root) -> Walk {
 }
 
 impl ReadAhead {
-    /// Nothing was read.
-    pub fn new(alloc: Global) -> ReadAhead {
+    /// Nothing was read. Nothing will be where a single thread would take the digests.
+    pub fn new(rt: &impl Threads, alloc: Global) -> ReadAhead {
         ReadAhead {
-            walk: Walk::Before,
+            walk: if has_threads(rt) {
+                Walk::Before
+            } else {
+                Walk::Over
+            },
             digests: Ahead::new(alloc),
         }
     }
@@ -152,13 +157,13 @@ impl ReadAhead {
         let Walk::On(mut cursor) = walk else {
             return;
         };
-        if add_segments(alloc, disk, index, &mut self.digests, &mut cursor, buf) {
+        if add_segments(disk, index, &mut self.digests, &mut cursor, buf) {
             self.walk = Walk::On(cursor);
         }
     }
 
     /// Reads some thousand segments ahead of an actor that is given a file, once it was given what was read ahead before, and answers
-    /// whether it did. Where there is no memory for them, it goes on without.
+    /// whether it did; `take_digests` has to come after it then. Where there is no memory for them, it goes on without.
     pub fn look_ahead<D: Disk>(
         &mut self,
         alloc: Global,
@@ -178,10 +183,14 @@ impl ReadAhead {
         self.digests.len() > 0
     }
 
-    /// Takes the digests of what was read ahead at once, by several threads. Where there is no memory for them, it reads ahead no more.
+    /// Takes the digests of what was read ahead at once, by several threads. Where there is no memory for them, what was read is given
+    /// up, and it reads ahead no more.
     pub fn take_digests<R: Threads + Sync>(&mut self, rt: &R, alloc: Global) {
         if self.digests.take(rt, alloc).is_err() {
-            self.walk = Walk::Over;
+            *self = ReadAhead {
+                walk: Walk::Over,
+                digests: Ahead::new(alloc),
+            };
         }
     }
 }

@@ -75,13 +75,13 @@ impl<D: Disk, M: Summary> HasState for Core<D, M> {
         self.look_ahead(ahead, actor, buf)
     }
 
-    fn read_ahead(
+    fn next_ahead(
         &mut self,
         ahead: &mut ReadAhead,
         actor: Actor,
         buf: &mut SegBuf,
     ) -> Result<Answer, Refusal> {
-        self.read_ahead(ahead, actor, buf)
+        self.next_ahead(ahead, actor, buf)
     }
 
     fn reopen(&mut self) -> Result<(), Refusal> {
@@ -543,13 +543,14 @@ impl<D: Disk, M: Summary> Core<D, M> {
         self.step_with(&mut Afresh, actor, step, buf)
     }
 
-    /// Reads ahead of an actor that is given a file, where it was given all that was read ahead before, and answers whether it did.
+    /// Reads ahead of an actor that is given a file, where it was given all that was read ahead before, and answers whether it did;
+    /// `ReadAhead::take_digests` has to come after it then.
     pub fn look_ahead(&self, ahead: &mut ReadAhead, actor: Actor, buf: &mut SegBuf) -> bool {
         ahead.look_ahead(self.alloc, &self.disk, &self.index, &self.parts, actor, buf)
     }
 
     /// Makes the step `ReadNext` of an actor, with the digests of what was read ahead.
-    pub fn read_ahead(
+    pub fn next_ahead(
         &mut self,
         ahead: &mut ReadAhead,
         actor: Actor,

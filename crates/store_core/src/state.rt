@@ -37,11 +37,12 @@ pub trait HasState {
             (record { actor = actor; step = step_value step.entry; answer = result; buf = buf.new }) (state self.new) }
         ensures running { IsRunning (state self.new) };
 
-    /// Reads ahead of an actor that is given a file, where it was given all that was read ahead before, and answers whether it did.
+    /// Reads ahead of an actor that is given a file, where it was given all that was read ahead before, and answers whether it did;
+    /// `ReadAhead::take_digests` has to come after it then.
     fn look_ahead(&self, ahead: &mut ReadAhead, actor: Actor, buf: &mut SegBuf) -> bool;
 
     /// Makes the step `ReadNext` of an actor, with the digests of what was read ahead.
-    fn read_ahead(
+    fn next_ahead(
         &mut self,
         ahead: &mut ReadAhead,
         actor: Actor,

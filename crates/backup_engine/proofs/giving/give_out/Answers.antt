@@ -15,7 +15,7 @@ returns-in_err-count-clause-ran g c =
 pub returns-in_default : goal.returns-in_default
 returns-in_default g c = record {
   ran = read_ended _ g.C.HasState.state _ _ _ _ _ _ c.loop-ahead.invariant _ _ c.first-in-loop-ahead.ensures _ c.in_default.not-Bytes c.in_ok-count.ensures.step;
-  running = c.read_ahead.ensures.running;
+  running = c.next_ahead.ensures.running;
 }
 
 pub returns-then-is_err-clause-ran : goal.returns-then-is_err-clause-ran
@@ -30,4 +30,4 @@ pub loop-ahead-preserved : goal.loop-ahead-preserved
 loop-ahead-preserved g c =
     written _ g.C.HasState.state _ _ _ _ _ _ c.loop-ahead.invariant _ _ c.first-in-loop-ahead.ensures _ _ c.in-Bytes.is c.in_ok-count.ensures.step _ _ _ c.bytes.ensures.value
     c.write_all.ensures
-    c.read_ahead.ensures.running c.if-is_err.ensures.value
+    c.next_ahead.ensures.running c.if-is_err.ensures.value

@@ -17,7 +17,8 @@ use Rattle.store_core.specs.State.{CoreState, Event}
 use Rattle.shared_store.specs.Calls.{Called, Calls}
 use Rattle.shared_store.specs.Made.{MakesStep, actor_in, steps_in}
 use Rattle.shared_store.specs.Passes.{PassValue, actor_of}
-use Rattle.shared_store.specs.Telling.{AreTold, AsksAreTold, Did, Tells, TellsNone, TellsOn, asks_of, event_of, steps_by}
+use Rattle.shared_store.specs.Events.{event_of}
+use Rattle.shared_store.specs.Telling.{AreTold, AsksAreTold, Did, Tells, TellsNone, TellsOn, asks_of, steps_by}
 
 module _ {C E : Type 0} (actor : E → ℕ) (Makes : E → C → C → Type 0) where
   module _ (x : ℕ) where

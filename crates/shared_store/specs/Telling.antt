@@ -8,6 +8,7 @@ use Rattle.turn_lock.specs.History.{IsHistory, times, turns_by}
 use Rattle.turn_lock.specs.Rule.{Follows}
 use Rattle.store_core.specs.State.{CoreState, Event}
 use Rattle.shared_store.specs.Calls.{Calls}
+use Rattle.shared_store.specs.Events.{event_of}
 use Rattle.shared_store.specs.Made.{MadeByOne, MakesStep, actor_in, steps_in}
 use Rattle.shared_store.specs.Passes.{PassValue, actor_of}
 
@@ -38,10 +39,6 @@ module _ {C E : Type 0} (actor : E → ℕ) (Makes : E → C → C → Type 0) w
       → (history : IsHistory (MadeByOne actor Makes) o log) × ((x : ℕ) → steps_by x (steps_in actor Makes o log history) ≡ per x)
 
 -- ---- what a caller asks for
-
--- as the step of an actor
-abbrev pub event_of : ℕ → Ask → Event
-event_of actor a = record { actor = actor; step = a.step; answer = a.answer; buf = a.buf }
 
 module _ {C : Type 0} (state : C → CoreState) where
   -- what a `Caller` asks for

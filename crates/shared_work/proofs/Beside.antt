@@ -19,7 +19,8 @@ use Rattle.shared_store.specs.Histories.{AreSteps, makers}
 use Rattle.shared_store.specs.Made.{MadeBy, MakesStep, actor_in, steps_in}
 use Rattle.shared_store.specs.Passes.{IsBusy, PassValue}
 use Rattle.shared_store.specs.Telling as shared
-use Rattle.shared_store.specs.Telling.{AreTold, AsksAreTold, Tells, TellsNone, TellsOn, event_of, steps_by}
+use Rattle.shared_store.specs.Events.{event_of}
+use Rattle.shared_store.specs.Telling.{AreTold, AsksAreTold, Tells, TellsNone, TellsOn, steps_by}
 use Rattle.ingest_workers.specs.declared.job.Job.{Job}
 use Rattle.ingest_workers.specs.declared.job.JobEnd.{JobEnd}
 use Rattle.ingest_workers.specs.Ingesting.{ask_of, asks_of}

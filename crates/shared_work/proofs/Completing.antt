@@ -17,7 +17,7 @@ use Rattle.store_machine.specs.Machine.{RunState}
 use Rattle.core_machine.specs.Files.{FilesRefine, FitsBy, IsAtFiles}
 use Rattle.ingest_workers.specs.declared.job.Job.{Job}
 use Rattle.ingest_workers.specs.Owing.{AreAllOwed, AreOwed, JobsAreOwed, OwedRunsAreRight}
-use Rattle.shared_store.specs.Telling.{event_of}
+use Rattle.shared_store.specs.Events.{event_of}
 use Rattle.shared_work.specs.Clashing.{IsHeldBetween, IsHeldNode, IsNoClash, IsNodeOf, NoneClashes}
 use Rattle.shared_work.specs.Complete.{MayRefuse, WhatWorkersAskIsDone}
 use Rattle.shared_work.specs.Completing.{IsCause, IsWorkNode, ShownSince, WorksAreComplete}

@@ -20,7 +20,7 @@ use Rattle.store_machine.specs.Machine.{RunState, Running, Stopped}
 use Rattle.store_machine.specs.Runs.{Run}
 use Rattle.store_machine.specs.Values.{of_files}
 use Rattle.core_machine.specs.Files.{file_step}
-use Rattle.shared_store.specs.Telling.{event_of}
+use Rattle.shared_store.specs.Events.{event_of}
 use Rattle.ingest_workers.specs.declared.job.JobEnd.{JobEnd}
 use Rattle.ingest_workers.specs.declared.job.JobEnd.TheVariants as ends
 use Rattle.ingest_workers.specs.Named.{AreStored}

@@ -8,7 +8,7 @@ use Rattle.actor_parts.specs.StepValue as asked
 use Rattle.actor_parts.specs.StepValue.{StepValue}
 use Rattle.load_stream.specs.Load.{LoadState}
 use Rattle.store_core.specs.State.{Event}
-use Rattle.shared_store.specs.Telling.{event_of}
+use Rattle.shared_store.specs.Events.{event_of}
 use Rattle.ingest_workers.specs.declared.job.JobEnd.{JobEnd}
 use Rattle.ingest_workers.specs.Ingesting.{ask_of, asks_of}
 use Rattle.ingest_workers.specs.Owing.{AreAllOwed, AreOwed, IsOwed, JobsAreOwed, own_files}

@@ -28,7 +28,7 @@ use Rattle.ingest_workers.specs.Giving.{Untaken}
 use Rattle.ingest_workers.specs.Ingesting.{ask_of, asks_of}
 use Rattle.ingest_workers.specs.Jobs.{IsJob, NoTemp, OwnJobs}
 use Rattle.ingest_workers.specs.Named.{own_by}
-use Rattle.shared_store.specs.Telling.{event_of}
+use Rattle.shared_store.specs.Events.{event_of}
 use Rattle.shared_work.specs.Complete.{AreWorkersSteps, AskedBeside, IsEmptyAt, MayAsk, MayRefuse, WhatWorkersAskIsDone, runs_after}
 use Rattle.shared_work.specs.declared.whole.Sum.{Sum}
 use Rattle.shared_work.specs.Completing.{IsSmall}

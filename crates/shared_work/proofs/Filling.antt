@@ -13,7 +13,7 @@ use Rattle.store_core.specs.declared.stop.Stop.{Stop}
 use Rattle.store_core.specs.Core.{CoreStep, Row, StepsOr}
 use Rattle.store_core.specs.Runs.{CoreRun}
 use Rattle.store_core.specs.State.{CoreState, Event}
-use Rattle.shared_store.specs.Telling.{event_of}
+use Rattle.shared_store.specs.Events.{event_of}
 use Rattle.namespace.specs.Listing.{NamedRoot}
 use Rattle.refusals.specs.declared.refusal.Refusal.TheVariants.{NotEmpty, Stopped}
 use Rattle.shared_work.specs.Whole.{BeginsBy, Concludes, Concluded, CountsAll, FillsEmpty, IsOneAsk, Lists, Outcome, Plan, Uncollected, Uncounted, Unlisted, WorksThrough}

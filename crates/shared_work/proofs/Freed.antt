@@ -26,7 +26,8 @@ use Rattle.shared_store.specs.Histories.{AreSteps, events_in}
 use Rattle.shared_store.specs.Made.{MadeBy, MadeByOne, MakesStep, actor_in, steps_in}
 use Rattle.shared_store.specs.Passes.{PassValue, actor_of}
 use Rattle.shared_store.specs.Telling as shared
-use Rattle.shared_store.specs.Telling.{AsksAreTold, TellsNone, Tells, event_of, steps_by}
+use Rattle.shared_store.specs.Events.{event_of}
+use Rattle.shared_store.specs.Telling.{AsksAreTold, TellsNone, Tells, steps_by}
 use Rattle.ingest_workers.specs.Ingesting.{ask_of, asks_of}
 use Rattle.ingest_workers.specs.Leaving.{WorkersLeave}
 use Rattle.ingest_workers.specs.Jobs.{OwnJobs}

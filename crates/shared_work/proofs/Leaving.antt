@@ -28,7 +28,7 @@ use Rattle.store_machine.specs.Runs.{IsPassedFrom, Run}
 use Rattle.store_machine.specs.Values.{of_files}
 use Rattle.core_machine.specs.Files.{FileRunsRefine, IsFileMachine, IsOfFound, IsOfPassed, file_step, stored_in}
 use Rattle.core_machine.specs.Refines.{answered_by}
-use Rattle.shared_store.specs.Telling.{event_of}
+use Rattle.shared_store.specs.Events.{event_of}
 use Rattle.ingest_workers.specs.declared.job.Job.{Job}
 use Rattle.ingest_workers.specs.declared.job.JobEnd.{JobEnd}
 use Rattle.ingest_workers.specs.Ingesting.{asks_of}

@@ -12,7 +12,7 @@ use Rattle.namespace.specs.Listing.{NamedRoot}
 use Rattle.actor_parts.specs.Asking.{Ask}
 use Rattle.load_stream.specs.Load.{LoadState}
 use Rattle.store_core.specs.State.{Event}
-use Rattle.shared_store.specs.Telling.{event_of}
+use Rattle.shared_store.specs.Events.{event_of}
 use Rattle.ingest_workers.specs.declared.job.Job.{Job}
 use Rattle.ingest_workers.specs.declared.job.JobEnd.{JobEnd}
 use Rattle.ingest_workers.specs.declared.job.JobEnd.TheVariants as ends

@@ -25,7 +25,7 @@ use Rattle.store_machine.specs.Runs.{Run}
 use Rattle.store_machine.specs.Values.{Values, of_roots}
 use Rattle.core_machine.specs.Refines.{CoreRefines}
 use Rattle.core_machine.specs.Runs.{RunsRefine, stepped}
-use Rattle.shared_store.specs.Telling.{event_of}
+use Rattle.shared_store.specs.Events.{event_of}
 use Rattle.ingest_workers.specs.declared.job.Job.{Job}
 use Rattle.shared_work.specs.declared.whole.Summary.{Summary}
 use Rattle.shared_work.specs.Left.{WorksAreRuns}

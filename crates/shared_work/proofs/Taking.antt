@@ -16,7 +16,8 @@ use Rattle.store_core.specs.State.{CoreState, Event}
 use Rattle.shared_store.specs.Calls.{JoinsPass, SplitsPass}
 use Rattle.shared_store.specs.Made.{MakesStep, actor_in}
 use Rattle.shared_store.specs.Passes.{PassValue, actor_of}
-use Rattle.shared_store.specs.Telling.{AsksAreTold, Tells, TellsNone, TellsOn, asks_of, event_of}
+use Rattle.shared_store.specs.Events.{event_of}
+use Rattle.shared_store.specs.Telling.{AsksAreTold, Tells, TellsNone, TellsOn, asks_of}
 use Rattle.shared_work.specs.Freed.{SplitIsFresh, SplitStaysFresh}
 use Rattle.shared_work.specs.Working.{HasTaken, IsNew, JoinsAll, up_to}
 

@@ -27,7 +27,7 @@ use Rattle.ingest_workers.specs.Ingesting.{asks_of}
 use Rattle.ingest_workers.specs.Jobs.{file_of, work_name}
 use Rattle.ingest_workers.specs.Named.{own_by}
 use Rattle.ingest_workers.specs.Owing.{stream_of}
-use Rattle.shared_store.specs.Telling.{event_of}
+use Rattle.shared_store.specs.Events.{event_of}
 use Rattle.shared_work.specs.declared.whole.Sum.{Sum}
 use Rattle.shared_work.specs.declared.whole.Summary.{Summary}
 use Rattle.shared_work.specs.Working.{AskedByWorker, CollectsBeside, CollectsOnce}

@@ -14,7 +14,8 @@ use Rattle.store_core.specs.State.{CoreState, Event}
 use Rattle.shared_store.specs.Calls.{JoinsPass}
 use Rattle.shared_store.specs.Made.{MakesStep, actor_in}
 use Rattle.shared_store.specs.Passes.{PassValue}
-use Rattle.shared_store.specs.Telling.{Tells, event_of}
+use Rattle.shared_store.specs.Events.{event_of}
+use Rattle.shared_store.specs.Telling.{Tells}
 use Rattle.ingest_workers.specs.declared.job.Job.{Job}
 use Rattle.ingest_workers.specs.declared.job.JobEnd.{JobEnd}
 use Rattle.ingest_workers.specs.Giving.{IsDone, IsRefused}

@@ -3,7 +3,7 @@ use Rattle.std.proofs.lemmas.List.{append-nil}
 use Rattle.refusals.specs.declared.refusal.Refusal.{Refusal}
 use Rattle.store_core.specs.Runs.{CoreRun}
 use Rattle.store_core.specs.State.{Event}
-use Rattle.shared_store.specs.Telling.{event_of}
+use Rattle.shared_store.specs.Events.{event_of}
 use Rattle.shared_work.specs.Whole.{EndsBy}
 use Rattle.shared_work.proofs.Filling.{conclude_steps, events_append, events_by, run_append, solo_run}
 use Rattle.shared_work.proofs.whole.fill.Goals as goal

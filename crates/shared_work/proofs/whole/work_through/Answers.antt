@@ -3,7 +3,7 @@ use Rattle.std.proofs.lemmas.List.{length-map}
 use Rattle.namespace.specs.Listing.{listed_value}
 use Rattle.refusals.specs.declared.refusal.Refusal.TheVariants.{NotEmpty}
 use Rattle.store_core.specs.Runs.{CoreRun}
-use Rattle.shared_store.specs.Telling.{event_of}
+use Rattle.shared_store.specs.Events.{event_of}
 use Rattle.shared_work.specs.Whole.{Plan, WorksThrough}
 use Rattle.shared_work.proofs.Filling.{filled, listed_idle, not_empty, solo_run, unlisted}
 use Rattle.shared_work.proofs.whole.work_through.Goals as goal

@@ -69,12 +69,7 @@ key_in_both key kind one other =
     ap (list_any (λ k. bytes_eq k key)) (map-append (segment_key kind) one other)
     ∙ list_any-append (λ k. bytes_eq k key) (map (segment_key kind) one) (map (segment_key kind) other)
 
--- where nothing that is not sealed has a key, the open container lacks it, and so does what is left after a seal
-pub key_open : (s : SessionState) (key : List ℕ) → has_key (gathered s Leaf) key ≡ false → has_key s.leaves key ≡ false
-unfolding has_key_in
-key_open s key none =
-    (or_parts _ (has_key s.leaves key) (sym (key_in_both key s.leaves.kind (segments_of_all s.aside) s.leaves.segments) ∙ none)).1
-
+-- where nothing that is not sealed has a key, what is left after a seal lacks it
 pub key_left : (count : ℕ) (s : SessionState) (key : List ℕ) → has_key (gathered s Leaf) key ≡ false →
     has_key (gathered (record s { aside = drop count s.aside }) Leaf) key ≡ false
 unfolding has_key_in

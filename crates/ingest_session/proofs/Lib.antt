@@ -20,6 +20,7 @@ pub mod Told
 pub mod Members
 pub mod Sealing
 pub mod Waiting
+pub mod KeyTimes
 pub mod Counts
 pub mod Cuts
 pub mod Following

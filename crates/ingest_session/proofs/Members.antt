@@ -1,5 +1,5 @@
 -- Elements of lists, and the pieces that are in their place.
-use Rattle.ingest_session.proofs.Prelude.{◌≡◌, ◌⊎◌, ◌∙◌, ℕ, zero, suc, Bool, true, false, ◌+◌, List, [], ◌∷◌, ◌++◌, Some, map, inl, inr, refl, sym, ap, subst, and_parts, or_left, or_right, AllByRecursion, list_any, ◌==◌, Kind, Contents, Segment, has_key, segment_key, Piece, Data, Node, piece_segment, item_kind, data_in, nodes_in, turn_of, item_of}
+use Rattle.ingest_session.proofs.Prelude.{◌≡◌, ◌⊎◌, ◌∙◌, ℕ, zero, suc, Bool, true, false, List, [], ◌∷◌, ◌++◌, Some, map, inl, inr, refl, sym, ap, subst, and_parts, or_left, or_right, AllByRecursion, list_any, ◌==◌, Kind, Contents, Segment, has_key, segment_key, Piece, Data, Node, piece_segment, item_kind, data_in, nodes_in, turn_of, item_of}
 use Rattle.std.proofs.Common.{slice_get}
 use Rattle.std.proofs.lemmas.Bool.{eqb-true, or_cases, or_parts}
 use Rattle.std.proofs.lemmas.Option.{same_Some}

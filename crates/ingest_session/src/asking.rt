@@ -34,8 +34,7 @@ impl Session {
         }
     }
 
-    /// Whether a segment with this key, of a kind, is still to be sealed. One map of the keys would be faster where many containers
-    /// are set aside.
+    /// Whether a segment with this key, of a kind, is still to be sealed: of those that were set aside one look-up tells.
     fn lies_open(&self, kind: Kind, key: &[u8; 33]) -> bool
         ensures { result ≡ has_key (gathered self.now kind) key.now }
     {

@@ -12,15 +12,15 @@ use std::collections::VecDeque;
 use std::marker::Model;
 use std::thread::Threads;
 
-/// How many segments wait at most while the file goes on, in a session that is fed line by line.
+/// How many segments wait at most while the file goes on, in a session that takes their digests one by one.
 pub const QUEUE: usize = 64;
-/// The same in a session that is fed a whole file: their digests are taken at once, and so many are worth the threads.
+/// The same in a session that has threads take their digests at once: so many are worth the threads.
 pub const LONG_QUEUE: usize = 1_024;
 /// So many fewer than may wait are to wait before a caller gives a piece of up to 4,096 bytes, so that it is taken whole: at most
 /// two segments end in such a piece, since all of them but the first have 2,048 bytes or more of it.
 pub(crate) const SPARED: usize = 3;
-/// How many segments wait at most before a piece is given, in a session that is fed line by line.
-pub const MOST_WAITING: usize = 61;
+/// How many segments wait at most before a piece is given, in the session with the shortest queue.
+pub const MOST_WAITING: usize = QUEUE - SPARED;
 /// Where so many segments wait and the first has no digest, it pays to start threads that take all of them.
 pub(crate) const MANY: usize = 32;
 
@@ -126,7 +126,8 @@ impl Queue {
         self.waiting[0].as_slice()
     }
 
-    /// The first segment with its digest, which is taken here where it wasn't before. It fails for want of memory alone.
+    /// The first segment with its digest, which is kept where `hash` took it, and else is taken here for this answer alone: the queue
+    /// stays as it is. The bytes are copied, which may fail for want of memory, and it fails for nothing else.
     pub fn first(&self, alloc: Global) -> Result<Seg, AllocError>
         requires { 0 < length self.now.segments }
         ensures { IfOk result (λ seg. front_of self.now.segments ≡ Some seg) }

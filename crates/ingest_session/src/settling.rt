@@ -6,7 +6,6 @@ use crate::line::LONG_LINE;
 use crate::session::Session;
 use container_meta::{Kind, OpenContainer};
 use std::alloc::AllocError;
-use std::mem::replace;
 
 impl Session {
     ghost use Rattle.ingest_session.specs.State.{HasItem, IsClosed, turn_node};
@@ -127,8 +126,7 @@ impl Session {
         ensures err { OnErr result (self.new ≡ self.old) }
     {
         let empty = OpenContainer::new(self.alloc, Kind::Leaf)?;
-        let filled = replace(&mut self.leaves, empty);
-        self.aside.push(filled);
+        self.aside.push(&mut self.leaves, empty)?;
         self.waits = false;
         Ok(())
     }

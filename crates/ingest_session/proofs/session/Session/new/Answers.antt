@@ -6,8 +6,8 @@ use Rattle.ingest_session.proofs.session.Session.new.Goals as goal
 
 pub invariant_of-session : goal.invariant_of-session
 invariant_of-session c =
-    new_is_session _ _ _ _ _ _ _ _ c.requires.least c.requires.limit c.in_ok-new.ensures.empty c.in_ok-new-2.ensures c.in_ok-new-3.ensures c.in_ok-new-4.ensures c.in_ok-new-5.ensures
-    c.in_ok-new-6.ensures c.in_ok-new-7.ensures
+    new_is_session _ _ _ _ _ _ _ _ c.requires.least c.requires.limit c.in_ok-new.ensures.empty c.in_ok-new-2.ensures c.in_ok-new-3.ensures c.in_ok-new-4.ensures
+    c.in_ok-new-5.ensures c.in_ok-new-6.ensures c.in_ok-new-7.ensures
 
 pub returns-clause-begun : goal.returns-clause-begun
 returns-clause-begun c = record {

@@ -4,7 +4,8 @@ use Rattle.std.proofs.Common.{Option, None}
 use Rattle.disk_format.specs.declared.numbers.TheConstants.{MOST_SEGMENT}
 use Rattle.ingest_session.proofs.Lists.{all_and_one}
 use Rattle.ingest_session.proofs.Uncut.{empty_is_uncut}
-use Rattle.ingest_session.proofs.Rests.{rest_grows, ahead_stays, full_stays}
+use Rattle.ingest_session.proofs.Rests.{rest_grows, ahead_stays, full_stays, never_whole, not_last_and_one, ongoing_last}
+use Rattle.ingest_session.proofs.Waiting.{on_and_off}
 
 -- ---- the segments that are still to come
 
@@ -18,26 +19,10 @@ still_long true rest on long = absurd (cc)
 still_long false [] on long = tt
 still_long false (y ∷ ys) on long = (λ _. long.0 refl, still_long false ys refl long.1)
 
-ongoing_last : (ended : Bool) (rest : List (List ℕ)) → ended ≡ false → is_last ended rest ≡ false
-ongoing_last false rest on = refl
-ongoing_last true rest on = absurd (cc)
-
-not_last_and_one : (queue : List (List ℕ)) (x : List ℕ) → is_last true (queue ++ x ∷ []) ≡ true → ⊥
-not_last_and_one [] x last = cc
-not_last_and_one (y ∷ ys) x last = cc
-
-never_whole : (top : Option Top) (last other : Bool) → IsWhole top last → last ≡ false → IsWhole top other
-never_whole None last other whole lasts = tt
-never_whole (Some top) last other whole lasts = absurd (cc)
-
 empty_has_no_rest : (ahead : Option KindSegment) (queue : List (List ℕ)) → is_last true queue ≡ true → is_last true (rest_after ahead queue) ≡ true
 empty_has_no_rest None queue last = last
 empty_has_no_rest (Some seg) [] last = refl
 empty_has_no_rest (Some seg) (x ∷ xs) last = absurd (cc)
-
-yes_and_no : (b : Bool) → b ≡ true → b ≡ false → ⊥
-yes_and_no true on off = cc
-yes_and_no false on off = cc
 
 module _ (s : SessionState) (is : IsSession s) (ongoing : s.ended ≡ false) where
   pub ended_with_rest : (x : List ℕ) → s.hand.bytes ≡ x → 1 ≤ length x → length x ≤ MOST_SEGMENT →
@@ -68,14 +53,14 @@ module _ (s : SessionState) (is : IsSession s) (ongoing : s.ended ≡ false) whe
           counted = λ on _. is.building.counted on last;
         };
         whole = never_whole s.top (is_last s.ended (rest_of s)) _ is.whole last;
-        closed = λ at_end. absurd (not_last_and_one s.queue x at_end);
+        closed = λ at_end. absurd (not_last_and_one true s.queue x at_end);
         next = is.next;
         nodes_right = is.nodes_right;
         aside = is.aside;
         together = is.together;
         full = λ on. full_stays s x (is.waits on).0 is.ahead (is.full on);
         line = is.line;
-        waits = λ on. ((is.waits on).0, λ _ at_end. absurd (not_last_and_one (rest_of s) x (ap (is_last true) (sym grows) ∙ at_end)));
+        waits = λ on. ((is.waits on).0, λ _ at_end. absurd (not_last_and_one true (rest_of s) x (ap (is_last true) (sym grows) ∙ at_end)));
       }
 
   pub ended_before_last : s.hand.bytes ≡ [] → is_last true (rest_of s) ≡ false → IsSession (record s { ended = true; hand = empty_hand })
@@ -100,12 +85,12 @@ module _ (s : SessionState) (is : IsSession s) (ongoing : s.ended ≡ false) whe
           counted = λ on _. is.building.counted on last;
         };
         whole = never_whole s.top (is_last s.ended (rest_of s)) _ is.whole last;
-        closed = λ at_end. absurd (yes_and_no _ (empty_has_no_rest s.ahead s.queue at_end) not_last);
+        closed = λ at_end. on_and_off _ (empty_has_no_rest s.ahead s.queue at_end) not_last;
         next = is.next;
         nodes_right = is.nodes_right;
         aside = is.aside;
         together = is.together;
         full = is.full;
         line = is.line;
-        waits = λ on. ((is.waits on).0, λ _ at_end. absurd (yes_and_no _ at_end not_last));
+        waits = λ on. ((is.waits on).0, λ _ at_end. on_and_off _ at_end not_last);
       }

@@ -6,6 +6,7 @@ use Rattle.merkle_file.specs.Tree.{root_of}
 use Rattle.ingest_session.specs.Calls.{GoesOn, EndsTree, LinesUp}
 use Rattle.ingest_session.proofs.InLine.{first_and_rest, turn_is_first}
 use Rattle.ingest_session.proofs.Members.{data_append, nodes_append}
+use Rattle.ingest_session.proofs.Rests.{ongoing_last}
 
 -- the segment that is ahead, if there is one
 abbrev pub begun : Option KindSegment → List (List ℕ) → List (List ℕ)
@@ -108,10 +109,6 @@ begun_follows s session is =
     }
 
 -- ---- bytes are taken, and the file ends
-
-pub ongoing_last : (ended : Bool) (queue : List (List ℕ)) → ended ≡ false → is_last ended queue ≡ false
-ongoing_last false queue on = refl
-ongoing_last true queue on = absurd (cc)
 
 pub taking_follows : (s t : SessionState) (given bytes : List ℕ) (placed : List Piece) → IsAhead s.ahead s.queue → IsTaking bytes s t →
     Follows s given placed → Follows t (given ++ bytes) placed

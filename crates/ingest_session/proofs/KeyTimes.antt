@@ -22,48 +22,39 @@ use Rattle.store_model.proofs.Indexing.{tied}
 use Rattle.ingest_session.specs.Sound.{IsAside}
 use Rattle.ingest_session.proofs.Lists.{all_and_one}
 use Rattle.ingest_session.proofs.Members.{all_after, found_in, key_there}
+use Rattle.ingest_session.proofs.Waiting.{on_and_off}
 use Rattle.ingest_session.specs.declared.counting.Known.{Known}
 use Rattle.ingest_session.specs.KeyTimes.{IsCounted, KnownKeys, once, times, times_among, times_in, times_known}
 
 -- ---- a key is counted
 
-by_key : (m : KnownKeys) (own key : List ℕ) (put : Option Known) → times_known (cond (eq_by_cmp (slice_cmp nat_cmp) key own) put (finite.get m key))
-    ≡ cond (bytes_eq own key) (times_known put) (times m key)
-by_key m own key put = ap (λ (b : Bool). times_known (cond b put (finite.get m key))) (tied key own) ∙ either (bytes_eq own key)
+-- another key was given a value, or taken away
+changed : (op : ℕ → ℕ → ℕ) (m n : KnownKeys) (own : List ℕ) (put : Option Known) → ((a : ℕ) → a ≡ op a 0) →
+    ((key : List ℕ) → finite.get n key ≡ cond (eq_by_cmp (slice_cmp nat_cmp) key own) put (finite.get m key)) → times_known put ≡ op (times m own) 1 →
+    (key : List ℕ) → times n key ≡ op (times m key) (once own key)
+changed op m n own put stays got new key =
+    ap times_known (got key) ∙ ap (λ (b : Bool). times_known (cond b put (finite.get m key))) (tied key own) ∙ by_test (bytes_eq own key) refl
   where
-    either : (b : Bool) → times_known (cond b put (finite.get m key)) ≡ cond b (times_known put) (times m key)
-    either true = refl
-    either false = refl
+    by_test : (b : Bool) → bytes_eq own key ≡ b → times_known (cond b put (finite.get m key)) ≡ op (times m key) (cond b 1 0)
+    by_test true same = new ∙ ap (λ (k : List ℕ). op (times m k) 1) ((bytes_eq-Decides own key).0 same)
+    by_test false other = stays (times m key)
 
-more : (m : KnownKeys) (own key : List ℕ) (new : ℕ) → new ≡ times m own + 1 → cond (bytes_eq own key) new (times m key) ≡ times m key + once own key
-more m own key new is = by_test (bytes_eq own key) refl
-  where
-    by_test : (b : Bool) → bytes_eq own key ≡ b → cond b new (times m key) ≡ times m key + cond b 1 0
-    by_test true same = is ∙ ap (λ (k : List ℕ). times m k + 1) ((bytes_eq-Decides own key).0 same)
-    by_test false other = omega arith
-
-less : (m : KnownKeys) (own key : List ℕ) (new : ℕ) → new ≡ times m own - 1 → cond (bytes_eq own key) new (times m key) ≡ times m key - once own key
-less m own key new is = by_test (bytes_eq own key) refl
-  where
-    by_test : (b : Bool) → bytes_eq own key ≡ b → cond b new (times m key) ≡ times m key - cond b 1 0
-    by_test true same = is ∙ ap (λ (k : List ℕ). times m k - 1) ((bytes_eq-Decides own key).0 same)
-    by_test false other = omega arith
+inserted : (m n : KnownKeys) (own : List ℕ) (known : Known) → n ≡ finite.insert m own known → (key : List ℕ) →
+    finite.get n key ≡ cond (eq_by_cmp (slice_cmp nat_cmp) key own) (Some known) (finite.get m key)
+inserted m n own known is key = ap (λ (x : KnownKeys). finite.get x key) is ∙ finite.get-insert nat_list_cmp_total m own known key
 
 pub counted_more : (m n : KnownKeys) (own : List ℕ) (known : Known) → n ≡ finite.insert m own known → known.times ≡ times m own + 1 → (key : List ℕ) →
     times n key ≡ times m key + once own key
-counted_more m n own known is one key =
-    ap (λ (x : KnownKeys). times x key) is ∙ ap times_known (finite.get-insert nat_list_cmp_total m own known key) ∙ by_key m own key (Some known)
-    ∙ more m own key known.times one
+counted_more m n own known is = changed (λ a b. a + b) m n own (Some known) (λ a. omega arith) (inserted m n own known is)
 
 pub counted_less : (m n : KnownKeys) (own : List ℕ) (known : Known) → n ≡ finite.insert m own known → known.times ≡ times m own - 1 → (key : List ℕ) →
     times n key ≡ times m key - once own key
-counted_less m n own known is one key =
-    ap (λ (x : KnownKeys). times x key) is ∙ ap times_known (finite.get-insert nat_list_cmp_total m own known key) ∙ by_key m own key (Some known)
-    ∙ less m own key known.times one
+counted_less m n own known is = changed (λ a b. a - b) m n own (Some known) (λ a. omega arith) (inserted m n own known is)
 
 pub counted_none : (m n : KnownKeys) (own : List ℕ) → n ≡ finite.remove m own → 0 ≡ times m own - 1 → (key : List ℕ) → times n key ≡ times m key - once own key
-counted_none m n own is one key =
-    ap (λ (x : KnownKeys). times x key) is ∙ ap times_known (finite.get-remove nat_list_cmp_total m own key) ∙ by_key m own key None ∙ less m own key 0 one
+counted_none m n own is =
+    changed (λ a b. a - b) m n own None (λ a. omega arith)
+    (λ key. ap (λ (x : KnownKeys). finite.get x key) is ∙ finite.get-remove nat_list_cmp_total m own key)
 
 pub among_few : (kind : Kind) (entries : List Entry) (i : ℕ) (key : List ℕ) → i < length entries → times_among kind (take i entries) key < length entries
 among_few kind entries i key within =
@@ -146,9 +137,6 @@ none_counted m cs empty none = record {
 
 -- ---- what a look-up finds
 
-yes_no : true ≡ false → ⊥
-yes_no is = cc
-
 some_of : (a b : ℕ) → nat_lt 0 (a + b) ≡ (nat_lt 0 a || nat_lt 0 b)
 some_of zero b = ap (nat_lt 0) (zero-add b)
 some_of (suc a) b = lt-ltb 0 (suc a + b) (omega arith) ∙ sym (or_left (nat_lt 0 (suc a)) (nat_lt 0 b) (lt-ltb 0 (suc a) (omega arith)))
@@ -177,7 +165,9 @@ has_none (c ∷ cs) x data_all none =
   where
     lacks : (b : Bool) → has_segment c x ≡ b → has_key c (segment_key Leaf x) ≡ false → false ≡ has_segment c x
     lacks false is lacked = sym is
-    lacks true is lacked = absurd (yes_no (sym (key_there c x (found_in c.segments x is)) ∙ ap (λ (k : Kind). has_key c (segment_key k x)) data_all.0.0 ∙ lacked))
+    lacks true is lacked =
+        let there = sym (ap (λ (k : Kind). has_key c (segment_key k x)) data_all.0.0) ∙ key_there c x (found_in c.segments x is) in
+        on_and_off (has_key c (segment_key Leaf x)) there lacked
 
 -- a segment whose key was not counted is in none of the containers, where these are of data
 pub not_found : (m : KnownKeys) (cs : List Contents) (x : Segment) (key : List ℕ) → IsCounted m cs → AllByRecursion IsAside cs → key ≡ segment_key Leaf x →

@@ -1,5 +1,5 @@
 -- What the builder of a tree is still to be given.
-use Rattle.ingest_session.proofs.Prelude.{◌≡◌, ◌≤◌, ℕ, false, List, [], ◌∷◌, ◌++◌, Some, length, refl, ap, ◌∙◌, LEAST_SEGMENT, KindSegment, Segment, has_room, item_kind, open_of, fits, item_of, SessionState, HasItem, rest_after, IsAhead, AreLong, turn_node}
+use Rattle.ingest_session.proofs.Prelude.{◌≡◌, ◌≤◌, ℕ, Bool, true, false, List, [], ◌∷◌, ◌++◌, Some, length, refl, ap, ◌∙◌, LEAST_SEGMENT, KindSegment, Segment, has_room, item_kind, open_of, fits, item_of, SessionState, HasItem, rest_after, IsAhead, IsWhole, AreLong, Top, is_last, turn_node}
 use Rattle.std.proofs.Common.{Option, None}
 use Rattle.merkle_file.specs.Node as node
 
@@ -17,6 +17,21 @@ ahead_stays (Some seg) (y ∷ ys) x is = is
 pub long_and_one : (rest : List (List ℕ)) (x : List ℕ) → AreLong false rest → LEAST_SEGMENT ≤ length x → AreLong false (rest ++ x ∷ [])
 long_and_one [] x long one = (λ _. one, tt)
 long_and_one (y ∷ ys) x long one = (λ _. long.0 refl, long_and_one ys x long.1 one)
+
+-- ---- while the file goes on
+
+pub ongoing_last : (ended : Bool) (rest : List (List ℕ)) → ended ≡ false → is_last ended rest ≡ false
+ongoing_last false rest on = refl
+ongoing_last true rest on = absurd (cc)
+
+pub not_last_and_one : (ended : Bool) (queue : List (List ℕ)) (x : List ℕ) → is_last ended (queue ++ x ∷ []) ≡ true → ⊥
+not_last_and_one false queue x last = cc
+not_last_and_one true [] x last = cc
+not_last_and_one true (y ∷ ys) x last = cc
+
+pub never_whole : (top : Option Top) (last other : Bool) → IsWhole top last → last ≡ false → IsWhole top other
+never_whole None last other whole lasts = tt
+never_whole (Some top) last other whole lasts = absurd (cc)
 
 -- an item that waits stays the same
 pub item_stays : (n : Option node.Contents) (spelled ahead : Option KindSegment) (queue : List (List ℕ)) (x : List ℕ) → HasItem n spelled ahead →

@@ -5,7 +5,7 @@ use Rattle.segmenter.specs.declared.cutting.Taken.{Taken}
 use Rattle.segmenter.specs.Cutting.{Takes, IsOne}
 use Rattle.ingest_session.proofs.Lists.{all_and_one}
 use Rattle.ingest_session.proofs.Uncut.{empty_is_uncut}
-use Rattle.ingest_session.proofs.Rests.{rest_grows, ahead_stays, full_stays, item_stays, long_and_one}
+use Rattle.ingest_session.proofs.Rests.{rest_grows, ahead_stays, full_stays, item_stays, long_and_one, never_whole, not_last_and_one, ongoing_last}
 
 -- a segment was cut off, and waits
 abbrev pub cut_off : SessionState → ℕ → List ℕ → SessionState
@@ -14,22 +14,9 @@ cut_off s n x = record s { count = s.count + n; hand = empty_hand; queue = s.que
 sum_and_one : (rest : List (List ℕ)) (x : List ℕ) → sum_by length (rest ++ x ∷ []) ≡ sum_by length rest + length x
 sum_and_one rest x = sum_by-append length rest (x ∷ []) ∙ ap (λ n. sum_by length rest + n) (zero-add (length x))
 
-never_whole : (top : Option Top) (last other : Bool) → IsWhole top last → last ≡ false → IsWhole top other
-never_whole None last other whole lasts = tt
-never_whole (Some top) last other whole lasts = absurd (cc)
-
-ongoing_is_not_last : (rest : List (List ℕ)) (ended : Bool) → ended ≡ false → is_last ended rest ≡ false
-ongoing_is_not_last rest false on = refl
-ongoing_is_not_last rest true on = absurd (cc)
-
 long_more : (ended : Bool) (rest : List (List ℕ)) (x : List ℕ) → ended ≡ false → AreLong ended rest → LEAST_SEGMENT ≤ length x → AreLong ended (rest ++ x ∷ [])
 long_more false rest x on long one = long_and_one rest x long one
 long_more true rest x on long one = absurd (cc)
-
-not_last_and_one : (ended : Bool) (queue : List (List ℕ)) (x : List ℕ) → is_last ended (queue ++ x ∷ []) ≡ true → ⊥
-not_last_and_one false queue x last = cc
-not_last_and_one true [] x last = cc
-not_last_and_one true (y ∷ ys) x last = cc
 
 module _ (s : SessionState) (bytes : List ℕ) (taken : Taken) (hand : Hand) (is : IsSession s) (ongoing : s.ended ≡ false) where
   pub cut_off_is_session : s.count + length bytes ≤ MOST_FILE → length s.queue + s.unseen < s.most → Takes s.hand bytes taken hand → taken.whole ≡ true
@@ -56,9 +43,9 @@ module _ (s : SessionState) (bytes : List ℕ) (taken : Taken) (hand : Hand) (is
           bytes = λ on. let before = is.building.bytes on in
               let sum = ap (sum_by length) grows ∙ sum_and_one (rest_of s) hand.bytes in omega (arith, before, sum, long);
           long = subst (λ (r : List (List ℕ)). AreLong s.ended r) (sym grows) (long_more s.ended (rest_of s) hand.bytes ongoing is.building.long least);
-          counted = λ on _. is.building.counted on (ongoing_is_not_last (rest_of s) s.ended ongoing);
+          counted = λ on _. is.building.counted on (ongoing_last s.ended (rest_of s) ongoing);
         };
-        whole = never_whole s.top (is_last s.ended (rest_of s)) _ is.whole (ongoing_is_not_last (rest_of s) s.ended ongoing);
+        whole = never_whole s.top (is_last s.ended (rest_of s)) _ is.whole (ongoing_last s.ended (rest_of s) ongoing);
         closed = λ last. absurd (not_last_and_one s.ended s.queue hand.bytes last);
         next = is.next;
         nodes_right = is.nodes_right;

@@ -1,6 +1,7 @@
 //! Laws of sessions with a history, for those who stand on them (docs/MODEL.md, 'Sessions'). Their functions do nothing.
 ghost use Rattle.ingest_session.specs.Facts.{AllIsKept, BytesAreCounted, ChildrenComeFirst, NodesAreFew, OpenNodesHaveChildren};
-ghost use Rattle.ingest_session.specs.Facts.{OpensArePieces, PlacedComeFirst, SealsWereAbsent, StepsAreFew, TurnsArePieces, WaitsForAnother};
+ghost use Rattle.ingest_session.specs.Facts.{OpensArePieces, PlacedComeFirst, SealsWereAbsent, StepsAreFew, TurnsArePieces};
+ghost use Rattle.ingest_session.specs.Facts.{WaitsForAnother};
 ghost use Rattle.ingest_session.specs.DueFor.{DueIsOne, KeptIsOne, OfferIsOne};
 
 /// How many bytes were taken is counted.

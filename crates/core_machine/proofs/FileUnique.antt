@@ -81,11 +81,13 @@ module _ (S : List ℕ → Type 0) (m : FileMachine) (t : RootMachine) (old new 
   module _ (segments bytes : ℕ) (is : CountsTrees at.index old.disk new.disk (listing_of (names_of m.store)) segments bytes) where
     was_visited : (key : List ℕ) → IsReachable m.now.names key → IsVisited is.visited key
     was_visited key reach =
-        visited_reached m.store m.now.names image stands_here.holds at.index old.disk new.disk is.visited here invariant.index_is_newest invariant.files_are_indexed is.visits key reach
+        visited_reached m.store m.now.names image stands_here.holds at.index old.disk new.disk
+        is.visited here invariant.index_is_newest invariant.files_are_indexed is.visits key reach
 
     can_be_reached : (key : List ℕ) → IsVisited is.visited key → IsReachable m.now.names key
     can_be_reached key visited =
-        reached_visited m.store m.now.names image stands_here.holds at.index old.disk new.disk is.visited here invariant.index_is_newest invariant.files_are_indexed is.visits key visited
+        reached_visited m.store m.now.names image stands_here.holds at.index old.disk new.disk
+        is.visited here invariant.index_is_newest invariant.files_are_indexed is.visits key visited
 
     one_has : (key : List ℕ) (size : ℕ) → finite.get is.sizes key ≡ Some size → OneHasSized (finite.values m.now.names) key size
     one_has key size got =

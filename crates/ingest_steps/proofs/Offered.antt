@@ -22,7 +22,8 @@ length-closed at (Some h ∷ cs) = length-closed (suc at) cs
 pub sealed_few : (offered free last : ℕ) → min offered (min (free - RESERVE) (LAST_ID - last)) ≤ free - RESERVE
 sealed_few offered free last = omega arith
 
-pub slots_are : (t : Tables) (offered count : ℕ) (slots : List ℕ) (store : Store) → count ≡ sealed_of offered (free_slots store.held) t.held.last_id → slots ≡ take count (closed_from 0 store.held)
+pub slots_are : (t : Tables) (offered count : ℕ) (slots : List ℕ) (store : Store) → count ≡ sealed_of offered (free_slots store.held) t.held.last_id
+    → slots ≡ take count (closed_from 0 store.held)
     → 1 ≤ offered → RESERVE < free_slots store.held → t.held.last_id < LAST_ID → AreSlotsOf t offered slots store
 slots_are t offered count slots store count_is is some room ids = record {
   many = many ∙ count_is;

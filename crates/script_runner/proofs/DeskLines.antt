@@ -124,7 +124,8 @@ module _ (F : Fitted) where
             (state r.core).disk (state mid.core).disk (state s.core).disk went.clock_is first.did rest.did;
         found = (
           λ files is told.
-              fitting.longer first.next.machine (state r.core).disk (state r.core).disk (state mid.core).disk (state s.core).disk (later_here (state r.core).disk) went.clock_is goes_on
+              fitting.longer first.next.machine (state r.core).disk (state r.core).disk (state mid.core).disk (state s.core).disk
+              (later_here (state r.core).disk) went.clock_is goes_on
               (first.found files is told),
           opened_so v (λ m. F.beside.Finds m (state mid.core).disk (state s.core).disk) (λ m. F.beside.Finds m (state r.core).disk (state s.core).disk)
               (λ m. fitting.longer m (state r.core).disk (state mid.core).disk (state s.core).disk (state s.core).disk went goes_on.clock_is (later_here (state s.core).disk))
@@ -220,8 +221,16 @@ module _ (C : Type 0) (state : C → CoreState) where
     runs = λ m c fits none. runs_by m.acknowledged m.state c.stop fits.state none;
     stops = λ m c stop fits is. stops_by m.acknowledged m.state c.stop stop fits.state is;
     kinds = λ m c fits a. part_kinds m.parts c.parts fits.parts a;
-    opened = λ a old new m fits opens runs. let one = opened_refines C view C state a old new opens runs in
-        (one.0, (one.1.2 m, one.1.0 false, any_left m one.0 (state old).disk (state new).disk, tt, found_read C view (state old).disk (state new) one.0 (one.1.0 false) opens one.1.1));
+    opened = λ a old new m fits opens runs. let one = opened_refines C view C state a old new opens runs in (
+      one.0,
+      (
+        one.1.2 m,
+        one.1.0 false,
+        any_left m one.0 (state old).disk (state new).disk,
+        tt,
+        found_read C view (state old).disk (state new) one.0 (one.1.0 false) opens one.1.1,
+      ),
+    );
     longer = λ m first old new last before between after is. (is.0, shown_longer first old new last m.store before between after is.1);
     unopened = λ a refusal old new m fits none leaves. let one = unopened_refines C view C state false a refusal old new m fits none leaves in
         (one.0, (one.1.0, one.1.1, λ b k owns. tt, any_left m one.0 (state old).disk (state new).disk, tt));

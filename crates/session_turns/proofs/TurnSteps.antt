@@ -173,7 +173,8 @@ module _ (C : Type 0) (state : C → CoreState) (among : ByteSet) (actor : ℕ) 
         let made = is_made S actor turn.before now there here (Ok answer) (state old) (state run.1) turn.asks in
         let then = answered answer turn.before now in
         goes_then fs made.event given t old run.1 new made.actor_is made.step
-        (go answers (fs ++ made.event ∷ []) then run.0 run.1 is (cut_still h then s run.0 refl (turn_stays (IsRunning (state run.1)) (core_does actor (state old) (state run.1)) answer s run.0 turn).ended cut)
+        (go answers (fs ++ made.event ∷ []) then run.0 run.1 is (cut_still h then s run.0 refl
+        (turn_stays (IsRunning (state run.1)) (core_does actor (state old) (state run.1)) answer s run.0 turn).ended cut)
         (turn.history now there)
         (Turned fs made.event turn.before now answer (paused_ingests fs h s turn.before has turn.paused so) there
         (record { actor_is = made.actor_is; is_due = made.is_due; answer_is = made.answer_is }))

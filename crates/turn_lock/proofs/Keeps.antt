@@ -377,7 +377,14 @@ module _ {C : Type 0} (makes : ℕ → C → C → Type 0) (lines : C → ℕ) (
           unused = r.unused;
           apart = apart_kept s.views id v w r.apart at (λ m k. absurd k);
           each = each_set (Fits opening h r.log r.drawn (r.served + 1) None) s.views id w
-              (record { opened = fit.opened; follows = fit.follows; beside = none_beside r.log; within = (λ x l. absurd (omega arith)); stands = (λ t. absurd (cc)); counted = fit.counted })
+              (record {
+                opened = fit.opened;
+                follows = fit.follows;
+                beside = none_beside r.log;
+                within = (λ x l. absurd (omega arith));
+                stands = (λ t. absurd (cc));
+                counted = fit.counted;
+              })
               (λ q u other at_q. let f = r.each q u at_q in record {
                 opened = f.opened;
                 follows = f.follows;
@@ -634,7 +641,8 @@ module _ {C : Type 0} (makes : ℕ → C → C → Type 0) (lines : C → ℕ) (
 
   pub looks : (slots id : ℕ) (me : Seated C) (n : ℕ) → me.0.stage ≡ Waits n → me.1 ≡ [] → Allows Rule slots id me 1 (λ k. k) (Looks makes me)
   looks slots id me n waits none_out =
-      subst (λ (m : Seated C). Allows Rule slots id m 1 (λ k. k) (Looks makes m)) (λ i. (view_at me.0.opening me.0.seen me.0.beside me.0.numbers (sym waits i) me.0.given, sym none_out i))
+      subst (λ (m : Seated C). Allows Rule slots id m 1 (λ k. k) (Looks makes m))
+      (λ i. (view_at me.0.opening me.0.seen me.0.beside me.0.numbers (sym waits i) me.0.given, sym none_out i))
       (looks_at slots id n me.0.opening me.0.seen me.0.beside me.0.numbers me.0.given)
 
   pub posts : (slots id n by count : ℕ) (others : List ℕ) (found left : Home C) (me : Seated C) → me.0.stage ≡ InTurn n found → me.0.numbers ≡ by ∷ others

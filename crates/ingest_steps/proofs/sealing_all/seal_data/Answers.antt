@@ -8,7 +8,8 @@ write_containers-requires-clause-slots g c =
 
 pub write_containers-requires-clause-ids : goal.write_containers-requires-clause-ids
 write_containers-requires-clause-ids g c = λ i within.
-    ids_right (g.D.Disk.view c.args.disk.now).size c.requires.state.0 c.args.tables.now c.requires.state.1 c.requires.slots.0 c.args.slots.now c.requires.slots.1 c.args.id c.requires.id
+    ids_right (g.D.Disk.view c.args.disk.now).size c.requires.state.0 c.args.tables.now c.requires.state.1 c.requires.slots.0 c.args.slots.now c.requires.slots.1
+    c.args.id c.requires.id
     i within
 
 pub returns-clause-moves : goal.returns-clause-moves

@@ -8,7 +8,8 @@ use Rattle.session_turns.proofs.turns.feed.Goals as goal
 pub returns-in_err-make_room-clause-feeds : goal.returns-in_err-make_room-clause-feeds
 returns-in_err-make_room-clause-feeds g c =
     let e = c.in_err-make_room.field-0.0 in
-    by_error (λ (r : Result (Unit {0}) Refusal). FeedsBy (maker_of g.C.MakesSteps.runs g.C.MakesSteps.makes) c.args.actor r c.args.bytes.now (session_at c.args.session.now c.args.core.now)
+    by_error (λ (r : Result (Unit {0}) Refusal). FeedsBy (maker_of g.C.MakesSteps.runs g.C.MakesSteps.makes) c.args.actor r c.args.bytes.now
+    (session_at c.args.session.now c.args.core.now)
     (session_at c.make_room.new.session c.make_room.new.core)) c.from_residual.result e c.from_residual.ensures.1
     (inl c.in_err-make_room.ensures.turns)
 

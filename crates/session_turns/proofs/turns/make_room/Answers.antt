@@ -21,13 +21,15 @@ returns-in_err-make_turn-clause-turns g c =
     by_error (λ (r : Result (Unit {0}) Refusal). MakesRoomBy maker c.args.actor r s u old new) c.from_residual.result e c.from_residual.ensures.1
     (room_then_stop _ maker c.args.actor (Unit {0})
     (Unit {0}) tt e s c.loop-actor.session u old c.loop-actor.core new c.loop-actor.invariant.turns
-    (crowded c.queued.result (seen c.loop-actor.session) c.most_waiting.result (most_waiting c.loop-actor.session) c.queued.ensures c.most_waiting.ensures.value c.loop-actor-test.true) c.in_err-make_turn.ensures.turn)
+    (crowded c.queued.result (seen c.loop-actor.session) c.most_waiting.result (most_waiting c.loop-actor.session)
+    c.queued.ensures c.most_waiting.ensures.value c.loop-actor-test.true) c.in_err-make_turn.ensures.turn)
 
 pub returns-then-is_none-clause-turns : goal.returns-then-is_none-clause-turns
 returns-then-is_none-clause-turns g c =
     room_then_any _ (maker_of g.C.MakesSteps.runs g.C.MakesSteps.makes) c.args.actor (Unit {0})
     (Unit {0}) tt tt c.args.session.now c.loop-actor.session c.make_turn.new.session c.args.core.now c.loop-actor.core c.make_turn.new.core c.loop-actor.invariant.turns
-    (crowded c.queued.result (seen c.loop-actor.session) c.most_waiting.result (most_waiting c.loop-actor.session) c.queued.ensures c.most_waiting.ensures.value c.loop-actor-test.true)
+    (crowded c.queued.result (seen c.loop-actor.session) c.most_waiting.result (most_waiting c.loop-actor.session)
+    c.queued.ensures c.most_waiting.ensures.value c.loop-actor-test.true)
     c.in_ok-make_turn.field-0 c.in_ok-make_turn.ensures.turn
 
 pub loop-actor-preserved : goal.loop-actor-preserved
@@ -39,7 +41,8 @@ loop-actor-preserved g c =
       most = c.in_ok-make_turn.ensures.most ∙ c.loop-actor.invariant.most;
       turns = room_then_any _ (maker_of g.C.MakesSteps.runs g.C.MakesSteps.makes) c.args.actor (Unit {0})
           (Unit {0}) tt tt c.args.session.now c.loop-actor.session c.make_turn.new.session c.args.core.now c.loop-actor.core c.make_turn.new.core c.loop-actor.invariant.turns
-          (crowded c.queued.result (seen c.loop-actor.session) c.most_waiting.result (most_waiting c.loop-actor.session) c.queued.ensures c.most_waiting.ensures.value c.loop-actor-test.true)
+          (crowded c.queued.result (seen c.loop-actor.session) c.most_waiting.result (most_waiting c.loop-actor.session)
+          c.queued.ensures c.most_waiting.ensures.value c.loop-actor-test.true)
           c.in_ok-make_turn.field-0 c.in_ok-make_turn.ensures.turn;
     }
 

@@ -12,8 +12,9 @@ pub returns-in_err-due-clause-turn : goal.returns-in_err-due-clause-turn
 returns-in_err-due-clause-turn g c =
     let core = c.args.core.now in
     by_error
-    (λ (r : Result
-    (Option Answer) Refusal). TakesTurnBy (maker_of g.C.MakesSteps.runs g.C.MakesSteps.makes) c.args.actor r c.args.session.now c.due.new.self core core) c.from_residual.result Memory c.from_residual.ensures.1
+    (λ (r : Result (Option Answer) Refusal). TakesTurnBy (maker_of g.C.MakesSteps.runs g.C.MakesSteps.makes) c.args.actor r
+    c.args.session.now c.due.new.self core core)
+    c.from_residual.result Memory c.from_residual.ensures.1
     (inl (refl, record { places = c.due.ensures.places; keeps = c.due.ensures.keeps }, refl))
 
 pub returns-in-Nothing-clause-turn : goal.returns-in-Nothing-clause-turn
@@ -42,7 +43,8 @@ returns-clause-turn g c =
       before = t;
       paused = record { places = c.due.ensures.places; keeps = c.due.ensures.keeps };
       settled = c.in_ok-due.ensures.ok;
-      asks = subst (λ (d : _). AskedFor (does maker c.args.actor c.args.core.now c.ask.new.core) d t (Ok c.in_ok-answer.answer)) c.in_ok-due.ensures.due c.in_ok-answer.ensures.asks;
+      asks = subst (λ (d : _). AskedFor (does maker c.args.actor c.args.core.now c.ask.new.core) d t (Ok c.in_ok-answer.answer))
+          c.in_ok-due.ensures.due c.in_ok-answer.ensures.asks;
       running = c.in_ok-answer.ensures.running;
       fits = c.in_ok-answer.ensures.fits;
       told = c.told.ensures.told;

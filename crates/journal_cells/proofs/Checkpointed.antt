@@ -19,7 +19,7 @@ not_false is = cc
 
 -- ---- frames
 
-which : (half : ℕ) → half ≤ 1 → (half ≡ 0) ⊎ (half ≡ 1)
+pub which : (half : ℕ) → half ≤ 1 → (half ≡ 0) ⊎ (half ≡ 1)
 which zero low = inl refl
 which (suc zero) low = inr refl
 which (suc (suc n)) low = absurd (omega (arith, low))

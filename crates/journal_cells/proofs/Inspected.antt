@@ -22,7 +22,7 @@ use Rattle.journal_cells.specs.Records.{first_open, record_in}
 use Rattle.journal_cells.proofs.Names.{place_again}
 use Rattle.journal_cells.proofs.Past.{first_none, first_some}
 use Rattle.journal_cells.proofs.Replays.{if_false, if_true, other_gate}
-use Rattle.journal_cells.proofs.Scanned.{gate_read}
+use Rattle.journal_cells.proofs.Scanned.{gate_read, left_after}
 
 -- ---- one record more
 
@@ -113,9 +113,6 @@ unfolding past_found
 past_first half from image found is = ap (first_past half) is
 
 -- ---- the next cell
-
-left_after : (count : ℕ) → count < half_cells → half_cells - count ≡ suc (half_cells - suc count)
-left_after count room = omega (arith, room)
 
 module _ (half left : ℕ) (counts : Bool) (replay : Replay) (image : List ℕ) where
   open_next : byte_at (cell_at half replay.count) image ≡ RECORD_GATE → (let cell = range (cell_at half replay.count) 512 image in

@@ -4,10 +4,11 @@ use Rattle.std.specs.FinMap as finite
 use Rattle.base_model.specs.Bytes.{range}
 use Rattle.dd_disk.proofs.Shows.{both}
 use Rattle.store_model.proofs.Records.{names_after_push}
+use Rattle.store_model.proofs.Valid.{follow_push}
 use Rattle.journal_cells.specs.Records.{record_in, replayed}
 use Rattle.journal_cells.specs.Scanning.{HasNext, HasNextFault, Leave, HasPart, HasRead}
 use Rattle.journal_cells.proofs.Damage.{IsDamage, record_damage}
-use Rattle.journal_cells.proofs.Replays.{follow_push, stand_push, replayed_open, replayed_closed, replayed_fault, replayed_full, gate_stands}
+use Rattle.journal_cells.proofs.Replays.{stand_push, replayed_open, replayed_closed, replayed_fault, replayed_full, gate_stands}
 
 pub gate_read : (at : ℕ) (image cell : List ℕ) → range at 512 image ≡ cell → byte_at at image ≡ byte_at 0 cell
 gate_read at image cell read = ap (λ (p : ℕ). byte_at p image) (omega arith) ∙ sym (byte-range 0 at 512 image (omega arith)) ∙ ap (byte_at 0) read
@@ -63,7 +64,7 @@ pub part_none : (half : ℕ) (v : DiskView) → IsPart (Shows v v) half nothing_
 part_none half v = record { records = []; leave = leave_none; seen = always v v _ (λ image sized. record { stand = tt; goes_on = refl }) }
 
 -- the cells that a reader has left, the next one first
-left_after : (count : ℕ) → count < half_cells → half_cells - count ≡ suc (half_cells - suc count)
+pub left_after : (count : ℕ) → count < half_cells → half_cells - count ≡ suc (half_cells - suc count)
 left_after count room = omega (arith, room)
 
 more_stand : (half : ℕ) (records : List RecordValue) (replay : Replay) (r : RecordValue) (image : List ℕ) → replay.count < half_cells → Leave records replay →

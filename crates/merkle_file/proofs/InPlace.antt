@@ -1,10 +1,9 @@
 -- What the bytes of a node say, read where they lie.
-use Rattle.merkle_file.proofs.Prelude.{◌≡◌, ℕ, zero, suc, ◌+◌, ◌*◌, ◌<◌, ◌≤◌, List, [], ◌∷◌, length, drop, refl, sym, ap, ◌∙◌, arith, flat_map, AllByRecursion, length-append, drop-drop, flat_map-cons, Child, Contents, IsChild, IsNode, entry, any_node, child_in, contents_in}
+use Rattle.merkle_file.proofs.Prelude.{◌≡◌, ℕ, zero, suc, ◌+◌, ◌*◌, ◌<◌, ◌≤◌, List, [], ◌∷◌, length, drop, refl, sym, ap, ◌∙◌, arith, drop-drop, Contents, IsNode, any_node, child_in, contents_in}
 use Rattle.merkle_file.specs.Node.{spelling}
 use Rattle.merkle_file.specs.Reading.{IsNodeBytes, children_in, short_number}
 use Rattle.merkle_file.specs.Laws.{NodesAreReadAgain}
-use Rattle.merkle_file.proofs.Fields.{length-entry}
-use Rattle.merkle_file.proofs.Nodes.{node_again}
+use Rattle.merkle_file.proofs.Nodes.{length-entries, node_again}
 
 -- as many children are read as are asked for
 pub count_read : (n : ℕ) (bytes : List ℕ) → length (children_in n bytes) ≡ n
@@ -12,15 +11,10 @@ unfolding children_in
 count_read zero bytes = refl
 count_read (suc n) bytes = ap suc (count_read n (drop 40 bytes))
 
-length_entries : (level : ℕ) (children : List Child) → AllByRecursion (IsChild level) children → length (flat_map entry children) ≡ 40 * length children
-length_entries level [] each = refl
-length_entries level (c ∷ cs) each =
-    rw (flat_map-cons entry c cs) (omega (arith, length-append (entry c) (flat_map entry cs), length-entry c each.0.digest, length_entries level cs each.1))
-
 -- a node's spelling has a head of four bytes, and forty for each child
 pub length_spelling : (n : Contents) → IsNode n → length (spelling n) ≡ 4 + 40 * length n.children
 unfolding spelling
-length_spelling n right = omega (arith, length_entries n.level n.children right.each)
+length_spelling n right = omega (arith, length-entries n.level n.children right.each)
 
 -- the number in the head counts the children, and the bytes are as many as they need
 pub record IsLong (bytes : List ℕ) : Type 0 where

@@ -191,7 +191,7 @@ entries_again asked level at before (c ∷ cs) small each most least =
     let after : drop 40 (entry c ++ rest) ≡ rest = drop_at (entry c) rest 40 (length-entry c len) in
     (rw (flat_map-cons entry c cs, this, number, after) others.0, rw (flat_map-cons entry c cs, one, after) (ap (λ (t : List Child). c ∷ t) others.1))
 
-length-entries : (level : ℕ) (children : List Child) → AllByRecursion (IsChild level) children → length (flat_map entry children) ≡ 40 * length children
+pub length-entries : (level : ℕ) (children : List Child) → AllByRecursion (IsChild level) children → length (flat_map entry children) ≡ 40 * length children
 length-entries level [] each = refl
 length-entries level (c ∷ cs) each =
     omega (arith, length-entry c each.0.digest, length-entries level cs each.1, ap length (flat_map-cons entry c cs), length-append (entry c) (flat_map entry cs))

@@ -1,25 +1,9 @@
 -- The trees to come on a walk, and the room that they take.
-use Rattle.merkle_file.proofs.Prelude.{◌≡◌, ℕ, zero, suc, ◌+◌, ◌-◌, ◌*◌, ◌<◌, ◌≤◌, List, [], ◌∷◌, ◌++◌, length, map, reverse, take, drop, get_or, refl, sym, ap, subst, ◌∙◌, append_assoc, arith, drop-drop, length-append, reverse-append, take-append-drop, drop_more, drop-length, Child, Top, MOST_CHILDREN, Contents, IsNode, child_in, IsAsked, IsWithin, HasRoom, below, opened}
+use Rattle.merkle_file.proofs.Prelude.{◌≡◌, ℕ, suc, ◌+◌, ◌-◌, ◌*◌, ◌<◌, ◌≤◌, List, [], ◌∷◌, ◌++◌, length, map, reverse, take, drop, get_or, refl, sym, ap, subst, ◌∙◌, append_assoc, arith, length-append, reverse-append, take-append-drop, drop_more, drop-length, Child, Top, MOST_CHILDREN, Contents, IsNode, IsAsked, IsWithin, HasRoom, below, opened}
 use Rattle.merkle_file.specs.declared.stack.TheConstants.{STACK}
-use Rattle.merkle_file.specs.Reading.{children_in}
 use Rattle.merkle_file.specs.Walk.{IsNamed, asked_for}
 
 -- ---- the children that bytes spell, one by one
-
-pub length-children_in : (n : ℕ) (bytes : List ℕ) → length (children_in n bytes) ≡ n
-unfolding children_in
-length-children_in zero bytes = refl
-length-children_in (suc n) bytes = ap suc (length-children_in n (drop 40 bytes))
-
-pub drop_child : (n i : ℕ) (bytes : List ℕ) → i < n → drop i (children_in n bytes) ≡ child_in (drop (40 * i) bytes) ∷ drop (i + 1) (children_in n bytes)
-unfolding children_in
-drop_child zero i bytes lt = absurd (omega arith)
-drop_child (suc n) zero bytes lt = refl
-drop_child (suc n) (suc i) bytes lt =
-    let ih = drop_child n i (drop 40 bytes) (omega arith) in
-    let place : drop (40 * i) (drop 40 bytes) ≡ drop (40 * suc i) bytes = drop-drop (40 * i) 40 bytes ∙ ap (λ (k : ℕ). drop k bytes) (omega arith) in
-    let next : suc i + 1 ≡ suc (i + 1) = omega arith in
-    rw (next, ← place) ih
 
 pub pushed_child : (before : List Top) (level : ℕ) (all : List Child) (i : ℕ) (c : Child) → drop i all ≡ c ∷ drop (i + 1) all
     → (before ++ reverse (map (below level) (drop (i + 1) all))) ++ below level c ∷ [] ≡ before ++ reverse (map (below level) (drop i all))

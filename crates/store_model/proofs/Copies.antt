@@ -1,10 +1,11 @@
 -- Where the newest copy of a key lies.
 use Rattle.store_model.proofs.Prelude.{◌≡◌, ◌⊎◌, inl, inr, ℕ, zero, suc, ◌+◌, ◌<◌, ◌≤◌, Bool, true, false, cond, List, [], ◌∷◌, ◌++◌, length, get_or, Option, Some, None, find, option_map, refl, sym, ◌∙◌, ap, subst, arith, nat_lt, nat_le, ◌==◌, AllByRecursion, bytes_eq, leb-true, eqb-true, sum_by-append, sum_by-cons, bytes_eq-Decides, sha256, range, key_of, data_at, Entry, Kind, kind_byte, is_level, HeaderValue, IsHeader, bytes_of, HoldSlots, AreHeaders, Copy, place_of, copy_in, newer, newest, Store, Encodes, AreCopies, bytes_at}
-use Rattle.std.specs.Prelude.{◌&&◌, ◌*◌, if◌then◌else◌}
+use Rattle.std.specs.Prelude.{◌*◌, if◌then◌else◌}
 use Rattle.disk_format.specs.declared.numbers.TheConstants.{MOST_CHILDREN, MOST_LEVEL}
 use Rattle.container_meta.specs.declared.kind.Kind.TheVariants.{Leaf, Tree}
 use Rattle.container_meta.specs.Format.{is_length, is_within, child_count}
 use Rattle.container_meta.specs.Spelling.{Follow}
+use Rattle.base_model.proofs.Checks.{both}
 
 -- two that are there and the same
 pub some_same : {A : Type 0} (a b : A) → Some a ≡ Some b → a ≡ b
@@ -88,18 +89,14 @@ ends_within kind test before (x ∷ xs) entry follow e =
           )
     ] e
 
-both_true : (a b : Bool) → a && b ≡ true → (a ≡ true) × (b ≡ true)
-both_true true b e = (refl, e)
-both_true false b e = absurd cc
-
 -- the lengths of segments
 pub length_within : (kind : Kind) (n : ℕ) → is_length kind n ≡ true → (1 ≤ n) × (n ≤ 16384)
 length_within Leaf n e =
-    let parts = both_true (nat_le 1 n) (nat_le n 16384) e in
+    let parts = both (nat_le 1 n) (nat_le n 16384) e in
     (leb-true 1 n parts.0, leb-true n 16384 parts.1)
 length_within Tree n e =
-    let node = both_true (is_within 1 MOST_CHILDREN (child_count n)) (n == 4 + 40 * child_count n) e in
-    let children = both_true (nat_le 1 (child_count n)) (nat_le (child_count n) MOST_CHILDREN) node.0 in
+    let node = both (is_within 1 MOST_CHILDREN (child_count n)) (n == 4 + 40 * child_count n) e in
+    let children = both (nat_le 1 (child_count n)) (nat_le (child_count n) MOST_CHILDREN) node.0 in
     let is : n ≡ 4 + 40 * child_count n = eqb-true n (4 + 40 * child_count n) node.1 in
     let few : child_count n ≤ 64 = leb-true (child_count n) MOST_CHILDREN children.1 in
     (omega (arith, is), omega (arith, is, few))
@@ -107,12 +104,12 @@ length_within Tree n e =
 -- and their levels
 level_within : (kind : Kind) (level : ℕ) → is_level kind level ≡ true → level ≤ MOST_LEVEL
 level_within Leaf level e = let zero_level : level ≡ 0 = eqb-true level 0 e in omega (arith, zero_level)
-level_within Tree level e = leb-true level MOST_LEVEL (both_true (nat_le 1 level) (nat_le level MOST_LEVEL) e).1
+level_within Tree level e = leb-true level MOST_LEVEL (both (nat_le 1 level) (nat_le level MOST_LEVEL) e).1
 
 -- data is at most as long as its section
 pub data_within : (h : HeaderValue) → IsHeader h → bytes_of h.entries ≤ 212480
 data_within h right =
-    let parts = both_true (nat_le 1 h.data_length) (nat_le h.data_length 212480) right.data_length in
+    let parts = both (nat_le 1 h.data_length) (nat_le h.data_length 212480) right.data_length in
     omega (arith, right.whole, leb-true h.data_length 212480 parts.1)
 
 -- the header in a slot is one
@@ -166,7 +163,7 @@ copy_within store key copy headers e =
 -- ---- the digest of a copy
 
 -- each is so, and one of them is found
-found_so : (P : Entry → Type 0) (test : Entry → Bool) (entries : List Entry) (entry : Entry) → AllByRecursion P entries → find test entries ≡ Some entry →
+pub found_so : (P : Entry → Type 0) (test : Entry → Bool) (entries : List Entry) (entry : Entry) → AllByRecursion P entries → find test entries ≡ Some entry →
     P entry × (test entry ≡ true)
 found_so P test [] entry all e = absurd cc
 found_so P test (x ∷ xs) entry all e =
@@ -190,7 +187,7 @@ copies_there from (Some g ∷ cs) zero h image copies e =
     subst (λ slot. AllByRecursion (λ y. sha256 (range (data_at slot + y.offset) y.length image) ≡ y.digest) h.entries) (omega arith) here
 copies_there from (Some g ∷ cs) (suc index) h image copies e = next_slot from index h image (copies_there (from + 1) cs index h image copies.1 e)
 
-tail_same : (a b : ℕ) (first second : List ℕ) → a ∷ first ≡ b ∷ second → first ≡ second
+pub tail_same : (a b : ℕ) (first second : List ℕ) → a ∷ first ≡ b ∷ second → first ≡ second
 tail_same a b first second e = cc
 
 -- the bytes of a copy have the digest that its key says

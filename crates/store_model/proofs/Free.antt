@@ -1,22 +1,18 @@
 -- Closed slots, by the id in each slot: 0 where it is closed; and on the disk.
 use Rattle.store_model.proofs.Prelude.{◌≡◌, ◌≢◌, ℕ, zero, suc, ◌+◌, ◌-◌, ◌^◌, ◌<◌, ◌≤◌, Bool, true, false, cond, List, [], ◌∷◌, length, Option, Some, None, refl, sym, ap, subst, ◌∙◌, arith, ◌==◌, nat_le, nat_lt, slice_get, leb-true, ltb-false, eqb-true, byte_at, CONTAINER_GATE, slot_at, HeaderValue, IsHeader, HoldsSlot, HoldSlots, AreHeaders, ids_of, free_slots, first_free, Store, Encodes}
-use Rattle.std.specs.Prelude.{◌&&◌}
 use Rattle.std.specs.List.{count_by, position, position_or_len}
 use Rattle.std.proofs.lemmas.List.Quantifiers.{position-Some}
 use Rattle.std.proofs.lemmas.List.Sums.{position_or_len_is}
 use Rattle.std.proofs.lemmas.List.Recursion.{is_count_by, is_position_or_len}
+use Rattle.base_model.proofs.Checks.{both}
 
 abbrev pub is_zero : ℕ → Bool
 is_zero id = id == 0
 
 -- a container's id isn't 0
 id_not_zero : (h : HeaderValue) → IsHeader h → is_zero h.id ≡ false
-id_not_zero h right = by_test (is_zero h.id) refl (both_true (nat_le 1 h.id) (nat_le h.id (2 ^ 64 - 2)) right.id)
+id_not_zero h right = by_test (is_zero h.id) refl (both (nat_le 1 h.id) (nat_le h.id (2 ^ 64 - 2)) right.id).0
   where
-    both_true : (a b : Bool) → a && b ≡ true → a ≡ true
-    both_true true b e = refl
-    both_true false b e = e
-
     by_test : (b : Bool) → is_zero h.id ≡ b → nat_le 1 h.id ≡ true → b ≡ false
     by_test false is from_one = refl
     by_test true is from_one = absurd (omega (arith, eqb-true h.id 0 is, leb-true 1 h.id from_one))

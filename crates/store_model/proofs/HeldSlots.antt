@@ -1,10 +1,11 @@
 -- What is so of each entry of the containers of a store, and stays so where the slots that have one are as they were.
-use Rattle.store_model.proofs.Prelude.{◌≡◌, ℕ, zero, suc, ◌+◌, ◌≤◌, Bool, true, false, cond, List, [], ◌∷◌, ◌++◌, length, get_or, Option, Some, None, find, refl, sym, ◌∙◌, ap, subst, arith, AllByRecursion, bytes_eq-Decides, sum_by-append, sum_by-cons, key_of, SameOutside, SLOT_BYTES, slot_at, Entry, Kind, kind_byte, is_level, HeaderValue, IsHeader, bytes_of, AreHeaders, Copy, newest, with_slot, entry_bytes, IsOfKind, AreNodes, IsAmong, AreAmong, bytes_at, HasNewest}
+use Rattle.store_model.proofs.Prelude.{◌≡◌, ℕ, zero, suc, ◌+◌, ◌≤◌, true, List, [], ◌∷◌, ◌++◌, length, get_or, Option, Some, None, refl, sym, ◌∙◌, ap, subst, arith, AllByRecursion, bytes_eq-Decides, sum_by-append, sum_by-cons, key_of, SameOutside, SLOT_BYTES, slot_at, Entry, Kind, kind_byte, is_level, HeaderValue, IsHeader, bytes_of, AreHeaders, Copy, newest, with_slot, entry_bytes, IsOfKind, AreNodes, IsAmong, AreAmong, bytes_at, HasNewest}
 use Rattle.container_meta.specs.declared.kind.Kind.TheVariants.{Leaf, Tree}
 use Rattle.container_meta.specs.Spelling.{Follow}
-use Rattle.store_model.proofs.Copies.{some_same, lies, data_within}
+use Rattle.store_model.proofs.Copies.{data_within, lies, some_same, tail_same}
 use Rattle.store_model.proofs.Frames.{SameSlot, SameSlots, copy_kept, place_kept}
 use Rattle.store_model.proofs.Kept.{other_same}
+pub use Rattle.store_model.proofs.Copies.{found_so}
 
 -- the slots that have a container are as they were
 abbrev pub SameHeld : ℕ → List (Option HeaderValue) → List ℕ → List ℕ → Type 0
@@ -98,24 +99,11 @@ module _ (P : Kind → Entry → List ℕ → Type 0) (old new : List ℕ) where
 
 -- ---- an entry that is found
 
--- each is so, and one of them is found
-pub found_so : (P : Entry → Type 0) (test : Entry → Bool) (entries : List Entry) (entry : Entry) → AllByRecursion P entries → find test entries ≡ Some entry →
-    P entry × (test entry ≡ true)
-found_so P test [] entry all e = absurd cc
-found_so P test (x ∷ xs) entry all e =
-    elim (test x) as (λ b. test x ≡ b → cond b (Some x) (find test xs) ≡ Some entry → P entry × (test entry ≡ true)) [
-      | true ↦ λ so is. subst (λ (y : Entry). P y × (test y ≡ true)) (some_same x entry is) (all.0, so)
-      | false ↦ λ so is. found_so P test xs entry all.1 is
-    ] refl e
-
 same_head : (a b : ℕ) (first second : List ℕ) → a ∷ first ≡ b ∷ second → a ≡ b
 same_head a b first second e = cc
 
-same_tail : (a b : ℕ) (first second : List ℕ) → a ∷ first ≡ b ∷ second → first ≡ second
-same_tail a b first second e = cc
-
 pub same_digest : (kind other : Kind) (a b : List ℕ) → key_of (kind_byte kind) a ≡ key_of (kind_byte other) b → a ≡ b
-same_digest kind other a b e = same_tail (kind_byte kind) (kind_byte other) a b e
+same_digest kind other a b e = tail_same (kind_byte kind) (kind_byte other) a b e
 
 pub same_kind : (kind other : Kind) (a b : List ℕ) → key_of (kind_byte kind) a ≡ key_of (kind_byte other) b → kind ≡ other
 same_kind Leaf Leaf a b e = refl

@@ -1,18 +1,14 @@
 -- How many keys an index has, and how much a store holds.
-use Rattle.store_model.proofs.Prelude.{◌≡◌, ℕ, ◌≤◌, Bool, true, false, List, length, arith, nat_le, leb-true, Kind, PlaceMap, Segment, entries_from, HeaderValue, IsHeader, header_of, with_entries, IsIndexOf, IsPartialIndexOf, free_slots, first_free, Store, CanHold, with_sealed}
-use Rattle.std.specs.Prelude.{◌&&◌}
+use Rattle.store_model.proofs.Prelude.{ℕ, ◌≤◌, List, length, arith, nat_le, leb-true, Kind, PlaceMap, Segment, entries_from, HeaderValue, IsHeader, header_of, with_entries, IsIndexOf, IsPartialIndexOf, free_slots, first_free, Store, CanHold, with_sealed}
 use Rattle.disk_format.specs.declared.numbers.TheConstants.{MOST_ENTRIES}
 use Rattle.store_model.proofs.Indexing.{index_with, partial_with}
+use Rattle.base_model.proofs.Checks.{both}
 
 -- ---- how many entries there may be
 
 -- a container has so many
 pub entries_within : (h : HeaderValue) → IsHeader h → length h.entries ≤ MOST_ENTRIES
-entries_within h right = leb-true (length h.entries) MOST_ENTRIES (second (nat_le 1 (length h.entries)) (nat_le (length h.entries) MOST_ENTRIES) right.count)
-  where
-    second : (a b : Bool) → a && b ≡ true → b ≡ true
-    second true b e = e
-    second false b e = absurd cc
+entries_within h right = leb-true (length h.entries) MOST_ENTRIES (both (nat_le 1 (length h.entries)) (nat_le (length h.entries) MOST_ENTRIES) right.count).1
 
 -- ---- once segments were sealed
 

@@ -6,7 +6,7 @@ use Rattle.std.specs.FinMap as finite
 use Rattle.std.proofs.Math.Bool.{or-true}
 use Rattle.std.proofs.lemmas.Map.Text.{is_eq-slice_cmp}
 use Rattle.container_meta.specs.Spelling.{Follow}
-use Rattle.store_model.proofs.Copies.{some_same}
+use Rattle.store_model.proofs.Copies.{some_same, tail_same}
 use Rattle.store_model.proofs.CopyIds.{newest_id}
 
 -- the map tells keys apart as their bytes do
@@ -23,10 +23,7 @@ entry_of kind entries key = find (λ e. bytes_eq (entry_key kind e) key) entries
 -- ---- entries put into a map
 
 digest_same : (kind : Kind) (a b : Entry) → bytes_eq (entry_key kind a) (entry_key kind b) ≡ true → a.digest ≡ b.digest
-digest_same kind a b same = tails _ _ a.digest b.digest (same_bytes (entry_key kind a) (entry_key kind b) same)
-  where
-    tails : (x y : ℕ) (first second : List ℕ) → x ∷ first ≡ y ∷ second → first ≡ second
-    tails x y first second e = cc
+digest_same kind a b same = tail_same _ _ a.digest b.digest (same_bytes (entry_key kind a) (entry_key kind b) same)
 
 -- none of the entries after others has the digest of one of those
 differs_later : (kind : Kind) (before es : List Entry) (one : Entry) → Follow kind before es → has_digest before one.digest ≡ true → entry_of kind es (entry_key kind one) ≡ None
@@ -98,7 +95,7 @@ module _ (kind : Kind) (slot : ℕ) where
 -- ---- the newest copy, once a container is in the first slot that is closed
 
 -- the one of the greater id is the newer, whichever stands first
-newer_first : (b : Copy) (a : Option Copy) → ((c : Copy) → a ≡ Some c → c.id < b.id) → newer (Some b) a ≡ Some b
+pub newer_first : (b : Copy) (a : Option Copy) → ((c : Copy) → a ≡ Some c → c.id < b.id) → newer (Some b) a ≡ Some b
 newer_first b None below = refl
 newer_first b (Some c) below = by_test (nat_lt b.id c.id) refl
   where
@@ -106,7 +103,7 @@ newer_first b (Some c) below = by_test (nat_lt b.id c.id) refl
     by_test false is = ap (λ (less : Bool). if less then Some c else Some b) is
     by_test true is = absurd (omega (arith, below c refl, ltb-true b.id c.id is))
 
-newer_last : (a : Option Copy) (b : Copy) → ((c : Copy) → a ≡ Some c → c.id < b.id) → newer a (Some b) ≡ Some b
+pub newer_last : (a : Option Copy) (b : Copy) → ((c : Copy) → a ≡ Some c → c.id < b.id) → newer a (Some b) ≡ Some b
 newer_last None b below = refl
 newer_last (Some c) b below = by_test (nat_lt c.id b.id) refl
   where

@@ -1,12 +1,12 @@
 -- The newest copy of each key, once a container is in a slot that was closed.
-use Rattle.store_model.proofs.Prelude.{◌≡◌, ◌≢◌, ℕ, zero, suc, ◌+◌, ◌<◌, ◌≤◌, Bool, true, false, cond, List, [], ◌∷◌, ◌++◌, Option, Some, None, find, option_map, refl, sym, ◌∙◌, ap, subst, append_assoc, arith, nat_lt, AllByRecursion, bytes_eq, ltb-true, ltb-false, bytes_eq-Decides, key_of, Entry, Kind, kind_byte, HeaderValue, IsHeader, has_digest, get_or, slice_get, Copy, place_of, copy_in, newer, newest, last_id, free_slots, first_free, with_slot}
-use Rattle.std.specs.Prelude.{if◌then◌else◌}
+use Rattle.store_model.proofs.Prelude.{◌≡◌, ◌≢◌, ℕ, zero, suc, ◌+◌, ◌<◌, ◌≤◌, Bool, true, false, cond, List, [], ◌∷◌, ◌++◌, Option, Some, None, find, option_map, refl, sym, ◌∙◌, ap, subst, append_assoc, arith, AllByRecursion, bytes_eq, bytes_eq-Decides, key_of, Entry, Kind, kind_byte, HeaderValue, IsHeader, has_digest, get_or, slice_get, Copy, place_of, copy_in, newer, newest, last_id, free_slots, first_free, with_slot}
 use Rattle.std.proofs.lemmas.Bool.{or_parts}
 use Rattle.container_meta.specs.Spelling.{Follow}
-use Rattle.store_model.proofs.Copies.{some_same}
+use Rattle.store_model.proofs.Copies.{some_same, tail_same}
 use Rattle.store_model.proofs.CopyIds.{newest_id}
 use Rattle.store_model.proofs.Filled.{first_empty}
 use Rattle.store_model.proofs.Free.{first_closed, some_free}
+use Rattle.store_model.proofs.Indexing.{newer_first, newer_last}
 
 -- the copy that an entry of a container is
 abbrev pub entry_copy : ℕ → ℕ → Entry → Copy
@@ -24,23 +24,6 @@ copy_id slot h key copy e = by_entry (find (entry_has h.kind key) h.entries) e
     by_entry : (found : Option Entry) → option_map (entry_copy slot h.id) found ≡ Some copy → h.id ≡ copy.id
     by_entry None e = absurd cc
     by_entry (Some x) e = ap (λ (c : Copy). c.id) (some_same _ copy e)
-
--- of a greater id is the newer one, whichever stands first
-newer_last : (a : Option Copy) (b : Copy) → ((c : Copy) → a ≡ Some c → c.id < b.id) → newer a (Some b) ≡ Some b
-newer_last None b below = refl
-newer_last (Some c) b below = by_test (nat_lt c.id b.id) refl
-  where
-    by_test : (less : Bool) → nat_lt c.id b.id ≡ less → (if nat_lt c.id b.id then Some b else Some c) ≡ Some b
-    by_test true is = ap (λ (less : Bool). if less then Some b else Some c) is
-    by_test false is = absurd (omega (arith, below c refl, ltb-false c.id b.id is))
-
-newer_first : (b : Copy) (a : Option Copy) → ((c : Copy) → a ≡ Some c → c.id < b.id) → newer (Some b) a ≡ Some b
-newer_first b None below = refl
-newer_first b (Some c) below = by_test (nat_lt b.id c.id) refl
-  where
-    by_test : (less : Bool) → nat_lt b.id c.id ≡ less → (if nat_lt b.id c.id then Some c else Some b) ≡ Some b
-    by_test false is = ap (λ (less : Bool). if less then Some c else Some b) is
-    by_test true is = absurd (omega (arith, below c refl, ltb-true b.id c.id is))
 
 -- ---- one container more
 
@@ -91,9 +74,6 @@ past kind digest (x ∷ xs) rest none =
     (by_test (entry_has kind (key_of (kind_byte kind) digest) x) refl parts.0)
     ∙ past kind digest xs rest parts.1
   where
-    tail_same : (a b : ℕ) (first second : List ℕ) → a ∷ first ≡ b ∷ second → first ≡ second
-    tail_same a b first second e = cc
-
     by_test : (same : Bool) → entry_has kind (key_of (kind_byte kind) digest) x ≡ same → bytes_eq x.digest digest ≡ false →
         entry_has kind (key_of (kind_byte kind) digest) x ≡ false
     by_test false is other = is

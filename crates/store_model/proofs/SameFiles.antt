@@ -1,12 +1,12 @@
 -- An image is a store of one map of files at most, and the file of a name is that of its root.
-use Rattle.store_model.proofs.Prelude.{◌≡◌, ℕ, Bool, true, false, ◌≤◌, List, length, Option, Some, None, refl, sym, ◌∙◌, ap, subst, nat_le, nat_list_cmp_total, leb-true, MOST_FILE, Root, IsRoot, HeaderValue, Named, Files, Store, Encodes, names_of, last_sequence, HasRoot, IsFileOf, IsStoreOf, StandsFor, root_of, HoldsTree}
-use Rattle.std.specs.Prelude.{◌&&◌}
+use Rattle.store_model.proofs.Prelude.{◌≡◌, ℕ, ◌≤◌, List, length, Option, Some, None, refl, sym, ◌∙◌, ap, subst, nat_le, nat_list_cmp_total, leb-true, MOST_FILE, Root, IsRoot, HeaderValue, Named, Files, Store, Encodes, names_of, last_sequence, HasRoot, IsFileOf, IsStoreOf, StandsFor, root_of, HoldsTree}
 use Rattle.std.specs.FinMap as finite
 use Rattle.store_model.specs.Trees.{file_tree}
 use Rattle.store_model.proofs.Once.{store_once}
 use Rattle.store_model.proofs.Roots.{root_of_name}
 use Rattle.store_model.proofs.Sound.{sound_of_right}
 use Rattle.store_model.proofs.Unfolding.{bytes_agree}
+use Rattle.base_model.proofs.Checks.{both}
 
 -- ---- one map of files
 
@@ -42,13 +42,9 @@ last_agrees m n i j image one other =
 
 -- ---- every file fits
 
-first_true : (a b : Bool) → a && b ≡ true → a ≡ true
-first_true true b e = refl
-first_true false b e = absurd cc
-
 -- a file whose root is right is no longer than the greatest
 pub right_fits : (bytes : List ℕ) → IsRoot (root_of bytes) → length bytes ≤ MOST_FILE
-right_fits bytes right = leb-true (length bytes) MOST_FILE (first_true (nat_le (length bytes) MOST_FILE) _ right.bytes)
+right_fits bytes right = leb-true (length bytes) MOST_FILE (both (nat_le (length bytes) MOST_FILE) _ right.bytes).0
 
 file_fits : (held : List (Option HeaderValue)) (image : List ℕ) (named : Option Named) (file : Option (List ℕ)) → ((n : Named) → named ≡ Some n → IsRoot n.root)
     → IsFileOf held image named file → FitsFile file

@@ -9,13 +9,13 @@ use Rattle.store_model.specs.Collisions.{HasNoCollisions}
 use Rattle.store_model.specs.Slots.{HoldsContainer, StandAt}
 use Rattle.store_model.specs.Steps.{MaySeal, FitsHeld}
 use Rattle.store_model.specs.Trees.{file_tree}
-use Rattle.store_model.proofs.Copies.{some_same, headers_of_right, copy_digest}
+use Rattle.store_model.proofs.Copies.{copy_digest, found_so, headers_of_right, some_same}
 use Rattle.store_model.specs.Together.{Placed, IsClosed, IsThere, with_placed}
 use Rattle.store_model.proofs.Filled.{length-with_slot, different_with, closed_empty}
 use Rattle.store_model.proofs.Free.{first_closed, some_free}
 use Rattle.store_model.proofs.FramedTrees.{before_slots, encodes_on, stands_on}
 use Rattle.store_model.proofs.FreedTrees.{in_head, in_tail}
-use Rattle.store_model.proofs.HeldSlots.{SameHeld, others_held, copy_still, found_so, have_levels, HasLevel, levels_so, newest_so, IsNodeEntry, nodes_so, so_nodes, IsAmongThese, among_so, so_among, so_with}
+use Rattle.store_model.proofs.HeldSlots.{SameHeld, others_held, copy_still, have_levels, HasLevel, levels_so, newest_so, IsNodeEntry, nodes_so, so_nodes, IsAmongThese, among_so, so_among, so_with}
 use Rattle.store_model.proofs.Kept.{holds_with, copies_with}
 use Rattle.store_model.proofs.NewestSealed.{entry_has, entry_copy, newest_at, newest_past, newest_of_entries, newest_of_others}
 use Rattle.store_model.proofs.OneNode.{one_level}

@@ -1,7 +1,7 @@
 -- What is so of a store that an image of some size holds.
-use Rattle.store_model.proofs.Prelude.{◌≡◌, ℕ, ◌-◌, ◌^◌, ◌≤◌, Bool, true, false, List, [], ◌∷◌, Option, Some, None, length, sym, ◌∙◌, arith, nat_le, leb-true, HeaderValue, IsHeader, AreHeaders, last_id, Store, Encodes, IsValidFor}
-use Rattle.std.specs.Prelude.{◌&&◌}
+use Rattle.store_model.proofs.Prelude.{◌≡◌, ℕ, ◌-◌, ◌^◌, ◌≤◌, List, [], ◌∷◌, Option, Some, None, length, sym, ◌∙◌, arith, nat_le, leb-true, HeaderValue, IsHeader, AreHeaders, last_id, Store, Encodes, IsValidFor}
 use Rattle.store_model.proofs.Copies.{headers_of_right}
+use Rattle.base_model.proofs.Checks.{both}
 
 -- a store that an image of this size holds is one that such an image may hold
 pub sound_of_right : (size : ℕ) (image : List ℕ) (store : Store) → length image ≡ size → Encodes image store → IsValidFor size store
@@ -18,11 +18,7 @@ sound_of_right size image store long right = record {
 
 -- a container's id is at most the greatest that there may be
 id_within : (h : HeaderValue) → IsHeader h → h.id ≤ 2 ^ 64 - 2
-id_within h right = leb-true h.id (2 ^ 64 - 2) (second (nat_le 1 h.id) (nat_le h.id (2 ^ 64 - 2)) right.id)
-  where
-    second : (a b : Bool) → a && b ≡ true → b ≡ true
-    second true b e = e
-    second false b e = absurd cc
+id_within h right = leb-true h.id (2 ^ 64 - 2) (both (nat_le 1 h.id) (nat_le h.id (2 ^ 64 - 2)) right.id).1
 
 -- so is the last one
 pub last_within : (held : List (Option HeaderValue)) → AreHeaders held → last_id held ≤ 2 ^ 64 - 2

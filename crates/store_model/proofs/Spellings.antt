@@ -2,7 +2,6 @@
 use Rattle.store_model.proofs.Prelude.{◌≡◌, ℕ, ◌+◌, ◌-◌, ◌^◌, ◌<◌, ◌≤◌, true, List, [], ◌∷◌, ◌++◌, length, take, get_or, Some, refl, sym, ◌∙◌, ap, subst, arith, append_assoc, length-append, nat_le, leb-true, sha256, byte_at, SELECTOR_GATE, RECORD_GATE, CONTAINER_GATE, MOST_FILE, selector_cell, Root, Change, RecordValue, IsRecord, IsChange, SelectorValue, Entry, Kind, kind_byte, HeaderValue, IsHeader}
 use Rattle.std.proofs.Common.{drop}
 use Rattle.std.specs.Int.{w16, w32, w64, to_be_bytes, from_be_bytes}
-use Rattle.std.proofs.lemmas.List.Concat.{flat_map-cons}
 use Rattle.std.proofs.lemmas.Nat.{from_be_bytes-to_be_bytes_2, from_be_bytes-to_be_bytes_4, from_be_bytes-to_be_bytes_8}
 use Rattle.sha2.proofs.Facts256.{length-sha256}
 use Rattle.base_model.specs.Bytes.{range, zeros}
@@ -11,8 +10,11 @@ use Rattle.base_model.proofs.Ranges.{length-zeros, range-range}
 use Rattle.disk_format.specs.declared.numbers.TheConstants.{FORMAT_GATE}
 use Rattle.disk_format.specs.Cells.{sealed, format_fields, format_cell, selector_fields, operation_of, root_in, record_front, record_fields, record_cell, IsSelector}
 use Rattle.disk_format.specs.Cells.Change.{Put, Delete}
+use Rattle.disk_format.proofs.CellParts.{length-format_fields, length-selector_fields}
 use Rattle.container_meta.specs.Format.{entry_place, is_id, is_count, is_data_length, kind_of}
 use Rattle.container_meta.specs.Spelling.{Follow, IsNext, entry_spelling, entries_spelling, fields_spelling, front_spelling, header_size, header_spelling}
+use Rattle.container_meta.proofs.Numbers.{length-entry_spelling}
+use Rattle.container_meta.proofs.Spelled.{entries_spelling-cons}
 use Rattle.store_model.proofs.Copies.{length_within}
 
 -- ---- lists and numbers
@@ -50,13 +52,9 @@ slots_spelled : (slots : ℕ) → take 4 (drop 11 (format_fields slots)) ≡ to_
 unfolding format_fields
 slots_spelled slots = refl
 
-length_format : (slots : ℕ) → length (format_fields slots) ≡ 479
-unfolding format_fields
-length_format slots = omega (arith, length-zeros 464)
-
 pub same_format : (a b : ℕ) → a < 2 ^ 32 → b < 2 ^ 32 → format_cell a ≡ format_cell b → a ≡ b
 same_format a b small little same =
-    let fields = same_fields FORMAT_GATE (format_fields a) (format_fields b) (length_format a ∙ sym (length_format b)) same in
+    let fields = same_fields FORMAT_GATE (format_fields a) (format_fields b) (length-format_fields a ∙ sym (length-format_fields b)) same in
     same_4 a b small little (sym (slots_spelled a) ∙ ap (λ (l : List ℕ). take 4 (drop 11 l)) fields ∙ slots_spelled b)
 
 -- a selector
@@ -68,14 +66,10 @@ last_spelled : (s : SelectorValue) → take 8 (drop 20 (selector_fields s)) ≡ 
 unfolding selector_fields
 last_spelled s = refl
 
-length_selector : (s : SelectorValue) → length (selector_fields s) ≡ 479
-unfolding selector_fields
-length_selector s = omega (arith, length-zeros 451)
-
 -- of one half
 pub same_selector : (s t : SelectorValue) → IsSelector s → IsSelector t → s.half ≡ t.half → selector_cell s ≡ selector_cell t → s ≡ t
 same_selector s t right also half same =
-    let fields = same_fields SELECTOR_GATE (selector_fields s) (selector_fields t) (length_selector s ∙ sym (length_selector t)) same in
+    let fields = same_fields SELECTOR_GATE (selector_fields s) (selector_fields t) (length-selector_fields s ∙ sym (length-selector_fields t)) same in
     let generation : s.generation ≡ t.generation =
     same_8 s.generation t.generation right.generation also.generation
     (sym (generation_spelled s) ∙ ap (λ (l : List ℕ). take 8 (drop 7 l)) fields ∙ generation_spelled t) in
@@ -181,11 +175,6 @@ entry_parts : (e : Entry) → entry_spelling e ≡ e.digest ++ (to_be_bytes w32 
 unfolding entry_spelling
 entry_parts e = simp append_assoc
 
-length_entry : (e : Entry) → length e.digest ≡ 32 → length (entry_spelling e) ≡ 48
-length_entry e long =
-    let after : List ℕ = to_be_bytes w32 e.offset ++ (to_be_bytes w32 e.length ++ (e.level ∷ zeros 7)) in
-    ap length (entry_parts e) ∙ omega (arith, long, length-append e.digest after, length-zeros 7)
-
 same_entry : (kind : Kind) (before : List Entry) (a b : Entry) → IsNext kind before a → IsNext kind before b → entry_spelling a ≡ entry_spelling b → a ≡ b
 same_entry kind before a b next also same =
     let parts = same_parts a.digest b.digest (to_be_bytes w32 a.offset ++ (to_be_bytes w32 a.length ++ (a.level ∷ zeros 7)))
@@ -199,10 +188,6 @@ same_entry kind before a b next also same =
         → (let x : Entry = record { digest = d; offset = k; length = m; level = i } in x) ≡ record { digest = e; offset = l; length = n; level = j }
     by_fields d e k l m n i j p q r s = cc
 
-entries_first : (e : Entry) (es : List Entry) → entries_spelling (e ∷ es) ≡ entry_spelling e ++ entries_spelling es
-unfolding entries_spelling
-entries_first e es = flat_map-cons entry_spelling e es
-
 same_entries : (kind : Kind) (before es fs : List Entry) → length es ≡ length fs → Follow kind before es → Follow kind before fs →
     entries_spelling es ≡ entries_spelling fs → es ≡ fs
 same_entries kind before [] [] many follow also same = refl
@@ -210,7 +195,7 @@ same_entries kind before [] (b ∷ fs) many follow also same = absurd (omega (ar
 same_entries kind before (a ∷ es) [] many follow also same = absurd (omega (arith, many))
 same_entries kind before (a ∷ es) (b ∷ fs) many follow also same =
     let parts = same_parts (entry_spelling a) (entry_spelling b) (entries_spelling es) (entries_spelling fs)
-    (length_entry a follow.0.digest ∙ sym (length_entry b also.0.digest)) (sym (entries_first a es) ∙ same ∙ entries_first b fs) in
+    (length-entry_spelling a follow.0.digest ∙ sym (length-entry_spelling b also.0.digest)) (sym (entries_spelling-cons a es) ∙ same ∙ entries_spelling-cons b fs) in
     let first : a ≡ b = same_entry kind before a b follow.0 also.0 parts.0 in
     let theirs : Follow kind (before ++ a ∷ []) fs = subst (λ (x : Entry). Follow kind (before ++ x ∷ []) fs) (sym first) also.1 in
     ap (λ (x : Entry). x ∷ es) first ∙ ap (λ (xs : List Entry). b ∷ xs) (same_entries kind (before ++ a ∷ []) es fs (omega (arith, many)) follow.1 theirs parts.1)

@@ -2,8 +2,9 @@ use Rattle.merkle_file.proofs.Prelude.{◌≡◌, ℕ, ◌-◌, ◌++◌, ◌∷
 use Rattle.std.proofs.Common.{vec_len}
 use Rattle.std.proofs.lemmas.List.{length-reverse, reverse-reverse}
 use Rattle.merkle_file.specs.Reading.{children_in, short_number}
-use Rattle.merkle_file.proofs.Walking.{is_named, length-children_in, opened_next}
+use Rattle.merkle_file.proofs.Walking.{is_named, opened_next}
 use Rattle.merkle_file.proofs.stack.open_next.Goals as goal
+use Rattle.merkle_file.proofs.InPlace.{count_read}
 
 -- the tree that was next, and those after it
 split : (items now left : List Top) (t : Top) (len : ℕ) → now ≡ items → length now ≡ len → reverse now ≡ t ∷ reverse (take (length now - 1) now) → left ≡ take (len - 1) items
@@ -35,7 +36,7 @@ push_children-requires-clause-room c =
       opened_is.few,
       length-reverse c.pop.new.self.items,
       c.count_of.ensures,
-      length-children_in (short_number (drop 2 c.args.bytes.now)) (drop 4 c.args.bytes.now),
+      count_read (short_number (drop 2 c.args.bytes.now)) (drop 4 c.args.bytes.now),
       found.1.most,
       c.pop.ensures.capacity,
       c.requires.capacity,

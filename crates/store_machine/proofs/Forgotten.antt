@@ -1,5 +1,5 @@
 -- A step of the machine of files is one of the machine of roots, once all but the roots is forgotten.
-use Rattle.store_machine.proofs.Prelude.{◌≡◌, inl, inr, ◌≤◌, ◌<◌, ◌+◌, ◌-◌, ◌^◌, ℕ, suc, false, [], ◌∷◌, ◌++◌, length, map, Contains, Option, Some, None, option_map, Result, Ok, Err, refl, sym, ◌∙◌, ap, subst, ACTORS, PinMap, pin_of, KindSegment, segment_key, Root, Put, Gone, half_cells, LAST_ID, MOST_NAMES, RESERVE, Top, start_of, PartKind, Phase, Refusal, Store, free_slots, last_id, with_freed, CanRise, with_change, with_sealed, Asked, Begins, GoesOn, IsCollecting, Makes, MayBreak, last_by, marking, marks_of, phase_in, swept_by, Done, Forgets, Rests, SameNow, SamePart, SameState, asked_of, forget_collection, Answers, ByState, Claims, Deletes, Does, GivesBytes, GivesUp, HasName, HasNumbers, HasRoom, HasSlot, IsAtEnd, IsAtRightPart, IsUnkept, broken_by, Keeps, LacksNumbers, MayCommit, OpensValue, Refuses, RefusesClaim, RefusesCommit, RefusesDelete, RefusesGcStep, RefusesOn, RefusesRead, RefusesSeal, RefusesUnique, Seals, LegalBy, counted, with_name, without_name, Collection, Found, Idle, Writing, Reading, RunState, Running, Stopped, all_idle, keeping, kind_of, one_more, part_in, put_at, keys_kept, values_read, MayBeFound, MayRefuseOpening, Reopens, freeing, IsStuck, of_files, of_roots, top_of}
+use Rattle.store_machine.proofs.Prelude.{◌≡◌, inl, inr, ◌≤◌, ◌<◌, ◌+◌, ◌-◌, ◌^◌, ℕ, suc, [], ◌∷◌, ◌++◌, length, map, Contains, Option, Some, None, option_map, Result, Ok, Err, refl, sym, ◌∙◌, ap, subst, PinMap, pin_of, KindSegment, segment_key, Root, Put, Gone, half_cells, LAST_ID, MOST_NAMES, RESERVE, Top, start_of, PartKind, Phase, Refusal, Store, free_slots, last_id, with_freed, CanRise, with_change, with_sealed, Asked, Begins, GoesOn, IsCollecting, Makes, MayBreak, last_by, marking, marks_of, phase_in, swept_by, Done, Forgets, Rests, SameNow, SamePart, SameState, asked_of, forget_collection, Answers, ByState, Claims, Deletes, Does, GivesBytes, GivesUp, HasName, HasNumbers, HasRoom, HasSlot, IsAtEnd, IsAtRightPart, IsUnkept, broken_by, Keeps, LacksNumbers, MayCommit, OpensValue, Refuses, RefusesClaim, RefusesCommit, RefusesDelete, RefusesGcStep, RefusesOn, RefusesRead, RefusesSeal, RefusesUnique, Seals, LegalBy, counted, with_name, without_name, Collection, Found, Idle, Writing, Reading, RunState, Running, Stopped, keeping, kind_of, one_more, part_in, put_at, keys_kept, values_read, MayBeFound, MayRefuseOpening, Reopens, freeing, IsStuck, of_files, of_roots, top_of}
 use Rattle.std.proofs.Common.{List, slice_get, take}
 use Rattle.std.specs.FinMap as finite
 use Rattle.container_meta.specs.Segments.{Contents}
@@ -18,7 +18,7 @@ use Rattle.store_machine.specs.Offers.{sealed_in, stores_with_some}
 use Rattle.store_machine.specs.Opening.{Opens}
 use Rattle.store_machine.proofs.AddedSame.{all_added, sealed_same, stores_same}
 use Rattle.store_machine.proofs.ForgottenCollection.{goes_same}
-use Rattle.store_machine.proofs.Parts.{F, G, FilePart, RootPart, part_at, set_at, all_same, kind_same, idle_same, writing_same, reading_same, kept_map, keys_same, read_same, map_two, collecting}
+use Rattle.store_machine.proofs.Parts.{F, G, collecting, fresh, fresh_same, idle_same, kept_map, keys_same, kind_same, map_two, part_at, put, read_same, reading_same, with_collection, with_names, with_state, writing_same}
 use Rattle.store_machine.proofs.SameNames.{gone_same, knows_same, len_same, listing_same, none_same, put_same, some_same, values_same}
 use Rattle.store_machine.proofs.Walks.{ends_both, more_both, next_leaf, start_both}
 
@@ -56,20 +56,6 @@ module _ (m : F) (r : G) (same : Forgets m r) where
   one_runs : (c : Collection (List ℕ)) → m.collection ≡ Some c → r.collection ≡ Some (forget_collection c)
   one_runs c ran = same.collection ∙ ap (option_map forget_collection) ran
 
-  -- the same, but that an actor is at another thing
-  put : (a : ℕ) (p : FilePart) (q : RootPart) → SamePart p q → Forgets (put_at m a p) (put_at r a q)
-  put a p q one = record {
-    now = same.now;
-    parts = set_at m.parts r.parts a p q same.parts one;
-    store = same.store;
-    last_id = same.last_id;
-    forgotten = same.forgotten;
-    swept = same.swept;
-    collection = same.collection;
-    acknowledged = same.acknowledged;
-    state = same.state;
-  }
-
   -- what is left of a step
   abbrev Left : (G → Type 0) → F → Type 0
   Left P n = (t : G) × P t × Forgets n t
@@ -101,17 +87,8 @@ module _ (m : F) (r : G) (same : Forgets m r) where
         same = λ known. absurd known;
         others = refl;
       })
-      (record {
-        now = same.now;
-        parts = set_at m.parts r.parts a (Writing part) (Writing part) same.parts refl;
-        store = same.store;
-        last_id = same.last_id;
-        forgotten = same.forgotten;
-        swept = same.swept;
-        collection = kept_now keys;
-        acknowledged = same.acknowledged;
-        state = same.state;
-      })
+      (with_collection (put_at m a (Writing part)) (put_at r a (Writing part)) (put m r same a (Writing part) (Writing part) refl)
+      (keeping keys m.collection) (keeping keys r.collection) (kept_now keys))
 
   sealed : (a : ℕ) (offered : List Contents) (id count : ℕ) (n : F) → Seals of_files a offered id count m n → Left (λ t. Seals of_roots a offered id count r t) n
   sealed a offered id count n c =
@@ -170,17 +147,8 @@ module _ (m : F) (r : G) (same : Forgets m r) where
         sequence_is = c.sequence_is ∙ ap suc (sym same.now.last_is);
         others = refl;
       })
-      (record {
-        now = put_same m.now r.now same.now name file c.right;
-        parts = set_at m.parts r.parts a Idle Idle same.parts tt;
-        store = ap (with_change name (Put (root_of file))) same.store;
-        last_id = same.last_id;
-        forgotten = same.forgotten;
-        swept = same.swept;
-        collection = same.collection;
-        acknowledged = ap one_more same.acknowledged;
-        state = same.state;
-      })
+      (with_names (put_at m a Idle) (put_at r a Idle) (put m r same a Idle Idle tt) (with_name of_files name file m.now)
+      (with_name of_roots name (root_of file) r.now) (with_change name (Put (root_of file))) (put_same m.now r.now same.now name file c.right))
 
   deleted : (name : List ℕ) (sequence : ℕ) (n : F) → Deletes of_files name sequence m n → Left (λ t. Deletes of_roots name sequence r t) n
   deleted name sequence n c =
@@ -188,24 +156,14 @@ module _ (m : F) (r : G) (same : Forgets m r) where
       goes (λ t. Deletes of_roots name sequence r t) n
       (record m { now = without_name of_files name m.now; store = with_change name Gone m.store; acknowledged = one_more m.acknowledged }) t c.others
       (record { named = c.named; there = knows name c.there; numbers = numbers c.numbers; sequence_is = c.sequence_is ∙ ap suc (sym same.now.last_is); others = refl })
-      (record {
-        now = gone_same m.now r.now same.now name;
-        parts = same.parts;
-        store = ap (with_change name Gone) same.store;
-        last_id = same.last_id;
-        forgotten = same.forgotten;
-        swept = same.swept;
-        collection = same.collection;
-        acknowledged = ap one_more same.acknowledged;
-        state = same.state;
-      })
+      (with_names m r same (without_name of_files name m.now) (without_name of_roots name r.now) (with_change name Gone) (gone_same m.now r.now same.now name))
 
   opened : (a : ℕ) (name : List ℕ) (count : ℕ) (n : F) → OpensValue of_files a name count m n → Left (λ t. OpensValue of_roots a name count r t) n
   opened a name count n (named, is_idle, (file, rest, found, starts, count_is, others)) =
       let tops : List Top = start_of (top_of (root_of file)) in
       goes (λ t. OpensValue of_roots a name count r t) n (put_at m a (Reading file rest)) (put_at r a (Reading (root_of file) tops)) others
       (named, idle a is_idle, (root_of file, tops, some_same m.now r.now same.now name file found, refl, count_is, refl))
-      (put a (Reading file rest) (Reading (root_of file) tops) (refl, subst (λ (l : List (List ℕ)). Rests l tops) (sym starts) (start_both file (same.now.few name file found))))
+      (put m r same a (Reading file rest) (Reading (root_of file) tops) (refl, subst (λ (l : List (List ℕ)). Rests l tops) (sym starts) (start_both file (same.now.few name file found))))
 
   given : (a : ℕ) (bytes : List ℕ) (n : F) → GivesBytes of_files a bytes m n → Left (λ t. GivesBytes of_roots a bytes r t) n
   given a bytes n (file, rest, after, was, gives, others) =
@@ -213,7 +171,7 @@ module _ (m : F) (r : G) (same : Forgets m r) where
       let next = next_leaf bytes after read.0 (subst (λ (l : List (List ℕ)). Rests l read.0) gives read.2) in
       goes (λ t. GivesBytes of_roots a bytes r t) n (put_at m a (Reading file after)) (put_at r a (Reading (root_of file) next.0)) others
       (root_of file, read.0, next.0, read.1, next.1, refl)
-      (put a (Reading file after) (Reading (root_of file) next.0) (refl, next.2))
+      (put m r same a (Reading file after) (Reading (root_of file) next.0) (refl, next.2))
 
   at_end : (a : ℕ) (n : F) → IsAtEnd of_files a m n → Left (λ t. IsAtEnd of_roots a r t) n
   at_end a n (file, rest, was, ends, others) =
@@ -221,7 +179,7 @@ module _ (m : F) (r : G) (same : Forgets m r) where
       stays (λ t. IsAtEnd of_roots a r t) n others (root_of file, read.0, read.1, ends_both read.0 (subst (λ (l : List (List ℕ)). Rests l read.0) ends read.2), refl)
 
   given_up : (a : ℕ) (kind : PartKind) (n : F) → GivesUp of_files a kind m n → Left (λ t. GivesUp of_roots a kind r t) n
-  given_up a kind n (is, others) = goes (λ t. GivesUp of_roots a kind r t) n (put_at m a Idle) (put_at r a Idle) others (kind_is a ∙ is, refl) (put a Idle Idle tt)
+  given_up a kind n (is, others) = goes (λ t. GivesUp of_roots a kind r t) n (put_at m a Idle) (put_at r a Idle) others (kind_is a ∙ is, refl) (put m r same a Idle Idle tt)
 
   -- ---- a collection
 
@@ -270,17 +228,7 @@ module _ (m : F) (r : G) (same : Forgets m r) where
       goes (λ t. Begins of_roots percent snapshot r t) n (record m { collection = Some (started percent snapshot) })
       (record r { collection = Some (root_started percent snapshot) }) others
       (none_runs none, is ∙ ap suc (sym same.last_id), refl)
-      (record {
-        now = same.now;
-        parts = same.parts;
-        store = same.store;
-        last_id = same.last_id;
-        forgotten = same.forgotten;
-        swept = same.swept;
-        collection = ap Some (begun_same percent snapshot);
-        acknowledged = same.acknowledged;
-        state = same.state;
-      })
+      (with_collection m r same (Some (started percent snapshot)) (Some (root_started percent snapshot)) (ap Some (begun_same percent snapshot)))
 
   gone_on : (phase : Phase) (n : F) → GoesOn of_files phase m n → Left (λ t. GoesOn of_roots phase r t) n
   gone_on phase n g =
@@ -325,17 +273,7 @@ module _ (m : F) (r : G) (same : Forgets m r) where
   ended freed copied n e =
       goes (λ t. Ends of_roots freed copied r t) n (record m { collection = None }) (record r { collection = None }) e.others
       (record { c = forget_collection e.c; ran = one_runs e.c e.ran; s = e.s; at_end = e.at_end; freed_is = e.freed_is; copied_is = e.copied_is; others = refl })
-      (record {
-        now = same.now;
-        parts = same.parts;
-        store = same.store;
-        last_id = same.last_id;
-        forgotten = same.forgotten;
-        swept = same.swept;
-        collection = refl;
-        acknowledged = same.acknowledged;
-        state = same.state;
-      })
+      (with_collection m r same None None refl)
 
   lacks_same : (key : List ℕ) → IsLacked m.store m.forgotten key → IsLacked r.store r.forgotten key
   lacks_same key (inl none) = inl (on_store (λ (s : Store). newest 0 s.held key ≡ None) none)
@@ -346,7 +284,7 @@ module _ (m : F) (r : G) (same : Forgets m r) where
   done_same : (a : ℕ) (step : Asked (List ℕ)) (answer : Done) (n : F) → Does of_files a step answer m n → Left (λ t. Does of_roots a (asked_of step) answer r t) n
   done_same a asked.Begin done.Begun n (is, others) =
       goes (λ t. Does of_roots a asked.Begin done.Begun r t) n (put_at m a (Writing finite.empty)) (put_at r a (Writing finite.empty)) others (idle a is, refl)
-      (put a (Writing finite.empty) (Writing finite.empty) refl)
+      (put m r same a (Writing finite.empty) (Writing finite.empty) refl)
   done_same a (asked.Claim seg) done.Held n does = claimed a seg n does
   done_same a (asked.Claim seg) done.Absent n (keeps, told, others) =
       stays (λ t. Does of_roots a (asked.Claim seg) done.Absent r t) n others
@@ -378,17 +316,7 @@ module _ (m : F) (r : G) (same : Forgets m r) where
 
   stop : (P : G → Type 0) (n : F) (other : Option (Found (List ℕ))) (found : Option (Found Root)) (stores others : List Store) → n ≡ record m { state = Stopped other stores }
       → SameState (Stopped other stores) (Stopped found others) → P (record r { state = Stopped found others }) → Left P n
-  stop P n other found stores others is one holds = goes P n (record m { state = Stopped other stores }) (record r { state = Stopped found others }) is holds (record {
-    now = same.now;
-    parts = same.parts;
-    store = same.store;
-    last_id = same.last_id;
-    forgotten = same.forgotten;
-    swept = same.swept;
-    collection = same.collection;
-    acknowledged = same.acknowledged;
-    state = one;
-  })
+  stop P n other found stores others is one holds = goes P n (record m { state = Stopped other stores }) (record r { state = Stopped found others }) is holds (with_state m r same (Stopped other stores) (Stopped found others) one)
 
   on_id : (P : ℕ → Type 0) → P m.last_id → P r.last_id
   on_id P is = subst P (sym same.last_id) is
@@ -463,7 +391,7 @@ module _ (m : F) (r : G) (same : Forgets m r) where
       let stuck : IsStuck read.0 refusals.DiskRead = subst (λ (tops : List Top). IsStuck tops refusals.DiskRead) (sym more.1.1) tt in
       goes (λ t. RefusesRead of_roots a refusals.DiskRead r t) n (put_at m a (Reading file after)) (put_at r a (Reading (root_of file) read.0)) others
       (root_of file, read.0, read.0, read.1, (([], refl), stuck), refl)
-      (put a (Reading file after) (Reading (root_of file) read.0) (refl, subst (λ (l : List (List ℕ)). Rests l read.0) (sym kept) read.2))
+      (put m r same a (Reading file after) (Reading (root_of file) read.0) (refl, subst (λ (l : List (List ℕ)). Rests l read.0) (sym kept) read.2))
   unread a refusal n (file, [], after, was, gone, others) = absurd gone
   unread a refusal n (file, bytes ∷ rest, after, was, gone, others) = absurd gone
 
@@ -545,20 +473,7 @@ module _ (m : F) (r : G) (same : Forgets m r) where
 
   pub taken_same : (step : Asked (List ℕ)) → taken_by (asked_of step) ≡ taken_by step
   taken_same asked.Begin = refl
-  taken_same (asked.Claim seg) = refl
-  taken_same (asked.Seal offered) = refl
-  taken_same (asked.Commit name file) = refl
-  taken_same asked.Abort = refl
-  taken_same (asked.OpenRead name) = refl
-  taken_same asked.ReadNext = refl
-  taken_same asked.EndRead = refl
-  taken_same (asked.Delete name) = refl
-  taken_same asked.ListNames = refl
-  taken_same (asked.GcStart percent) = refl
-  taken_same asked.GcStep = refl
-  taken_same asked.Stat = refl
-  taken_same asked.Unique = refl
-  taken_same asked.Reopen = refl
+  taken_same other = refl
 
   right_part : (a : ℕ) (step : Asked (List ℕ)) → IsAtRightPart of_files a step m → IsAtRightPart of_roots a (asked_of step) r
   right_part a step right taken is = kind_is a ∙ right taken (sym (taken_same step) ∙ is)
@@ -597,28 +512,8 @@ module _ (m : F) (r : G) (same : Forgets m r) where
   opened_again : (files : ℕ) (n : F) → Opens of_files files m n → Left (λ t. Opens of_roots files r t) n
   opened_again files n o =
       let found = found_same m.state r.state o.found same.state (o.may tt) in
-      let t : G = record {
-        now = found.0;
-        parts = all_idle;
-        store = n.store;
-        last_id = last_id n.store.held;
-        forgotten = [];
-        swept = false;
-        collection = None;
-        acknowledged = 0;
-        state = Running;
-      } in
-      goes (λ t. Opens of_roots files r t) n (record {
-        now = o.found;
-        parts = all_idle;
-        store = n.store;
-        last_id = last_id n.store.held;
-        forgotten = [];
-        swept = false;
-        collection = None;
-        acknowledged = 0;
-        state = Running;
-      }) t o.others
+      let t : G = fresh found.0 n.store in
+      goes (λ t. Opens of_roots files r t) n (fresh o.found n.store) t o.others
       (record {
         found = found.0;
         may = λ told. absurd told;
@@ -631,7 +526,7 @@ module _ (m : F) (r : G) (same : Forgets m r) where
         reserve = o.reserve;
         others = refl;
       })
-      (record { now = found.1; parts = all_same ACTORS; store = refl; last_id = refl; forgotten = refl; swept = refl; collection = refl; acknowledged = refl; state = tt })
+      (fresh_same o.found found.0 n.store found.1)
 
   pub still_same : (stores : List Store) (s : RunState (List ℕ)) (u : RunState Root) → SameState s u → SameState (freeing of_files stores s) (freeing of_roots stores u)
   still_same stores Running Running one = refl
@@ -663,17 +558,7 @@ module _ (m : F) (r : G) (same : Forgets m r) where
   reopened (Err refusal) n (may, inr (stores, others, why, known)) =
       goes (λ t. Reopens of_roots (Err refusal) r t) n (record m { state = freeing of_files stores m.state }) (record r { state = freeing of_roots stores r.state }) others
       (refuse_same refusal may, inr (stores, refl, why, λ e. absurd e))
-      (record {
-        now = same.now;
-        parts = same.parts;
-        store = same.store;
-        last_id = same.last_id;
-        forgotten = same.forgotten;
-        swept = same.swept;
-        collection = same.collection;
-        acknowledged = same.acknowledged;
-        state = still_same stores m.state r.state same.state;
-      })
+      (with_state m r same (freeing of_files stores m.state) (freeing of_roots stores r.state) (still_same stores m.state r.state same.state))
 
   -- ---- a step
 

@@ -52,7 +52,7 @@ module _ (m : F) (r : G) (same : Forgets m r) where
   more_left filled now after (more, gone, filled_is, gone_is) = (more, gone, filled_is, gone_is ∙ ap (λ (fs : List (List ℕ)). fs ++ gone) (sym same.forgotten))
 
   copies_same : (c : Collection (List ℕ)) (w : Went) → Copies of_files c m w → Copies of_roots (forget_collection c) r w
-  copies_same c w (s, t, next, stage, after, recorded, changes, left, ready, more, over, inl (source, entry, next_is, inl ends)) = (
+  copies_same c w (s, t, next, stage, after, recorded, changes, left, ready, more, over, ends) = (
     s,
     t,
     next,
@@ -64,27 +64,13 @@ module _ (m : F) (r : G) (same : Forgets m r) where
     ready,
     more_left s.filled t.filled w.forgotten more,
     (λ known. absurd known),
-    inl
-        (source, entry, on_store (λ (x : Store). next ≡ next_of x.held (sources_in c) t) next_is, inl ends),
+    elim ends [
+      | inl (source, entry, next_is, inl ends) ↦ inl (source, entry, on_store (λ (x : Store). next ≡ next_of x.held (sources_in c) t) next_is, inl ends)
+      | inl (source, entry, next_is, inr (inl ends)) ↦ inl (source, entry, on_store (λ (x : Store). next ≡ next_of x.held (sources_in c) t) next_is, inr (inl ends))
+      | inl (source, entry, next_is, inr (inr ends)) ↦ absurd (ends.0 tt)
+      | inr stops ↦ inr stops
+    ],
   )
-  copies_same c w (s, t, next, stage, after, recorded, changes, left, ready, more, over, inl (source, entry, next_is, inr (inl ends))) = (
-    s,
-    t,
-    next,
-    stage,
-    after,
-    recorded,
-    changes,
-    left,
-    ready,
-    more_left s.filled t.filled w.forgotten more,
-    (λ known. absurd known),
-    inl
-        (source, entry, on_store (λ (x : Store). next ≡ next_of x.held (sources_in c) t) next_is, inr (inl ends)),
-  )
-  copies_same c w (s, t, next, stage, after, recorded, changes, left, ready, more, over, inl (source, entry, next_is, inr (inr ends))) = absurd (ends.0 tt)
-  copies_same c w (s, t, next, stage, after, recorded, changes, left, ready, more, over, inr stops) =
-      (s, t, next, stage, after, recorded, changes, left, ready, more_left s.filled t.filled w.forgotten more, (λ known. absurd known), inr stops)
 
   flushes_same : (c : Collection (List ℕ)) (w : Went) → Flushes of_files c m w → Flushes of_roots (forget_collection c) r w
   flushes_same c w (s, t, kind, segments, stage, changes, keys, t_is, next, recorded, forgotten, known) = (

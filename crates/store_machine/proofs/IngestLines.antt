@@ -235,7 +235,7 @@ module _ (name : List ℕ) (now : Found (List ℕ)) (opened : Store) where
             how = inl (memory, refl);
           })
       stopped_so line none s t was follow (made, turns, (refusal, reply_is, inr (step, due, (told, is, by)))) =
-          let parts = run_parts made (step_of of_files 0 step told ∷ []) d.machine mid.machine (run_as _ is) in
+          let parts = run_parts of_files made (step_of of_files 0 step told ∷ []) d.machine mid.machine (run_as _ is) in
           let turned = turns_go 0 made s t d.machine parts.0 goes.ready.runs turns parts.1 in
           let quiet = due_is_quiet t step due in
           let legal = run_one (step_of of_files 0 step told) (step_of of_files 0 step told ∷ []) parts.0 mid.machine refl parts.2 in
@@ -352,7 +352,7 @@ module _ (name : List ℕ) (now : Found (List ℕ)) (opened : Store) where
       commit_acts end (s, t, (was, sessions), inr stop) = stopped_so (lines.Commit 0 name) (λ refusal. refl) s t was (λ more come on. come) stop
       commit_acts end (s, t, (was, sessions), inl (made, turns, nothing, (told, is, by))) =
           let step = step_of of_files 0 (asked.Commit name t.given) told in
-          let parts = run_parts made (step ∷ []) d.machine mid.machine (run_as _ is) in
+          let parts = run_parts of_files made (step ∷ []) d.machine mid.machine (run_as _ is) in
           let turned = turns_go 0 made s t d.machine parts.0 goes.ready.runs turns parts.1 in
           let legal = run_one step (step ∷ []) parts.0 mid.machine refl parts.2 in
           committed_so t parts.0 told by turned.goes.state (turned.goes.now ∙ goes.ready.same) (turned.given ∙ given_of s was) (turned.ended ∙ ended_of s was ∙ end) nothing

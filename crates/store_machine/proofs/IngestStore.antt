@@ -8,10 +8,10 @@ use Rattle.refusals.specs.declared.refusal.Refusal.TheVariants as refusals
 use Rattle.script_lines.specs.ReplyValue as replies
 use Rattle.store_model.specs.Trees.{root_of}
 use Rattle.store_machine.specs.Asked as asked
-use Rattle.store_machine.specs.Done as done
 use Rattle.store_machine.specs.Ingests.{IsBroken}
 use Rattle.store_machine.specs.Offers.{sealed_in, stores_with_some}
 use Rattle.store_machine.proofs.Quiet.{F}
+use Rattle.store_machine.specs.Done as done
 
 -- a claim or a seal
 abbrev pub IsTurn : Asked (List ℕ) → Type 0
@@ -33,23 +33,7 @@ IsRefusal reply = ⊥
 
 pub unrefused : (a : ℕ) (answer : Done) → IsRefusal (reply_of a (Ok answer)) → ⊥
 unrefused a done.Begun is = is
-unrefused a done.Held is = is
-unrefused a done.Absent is = is
-unrefused a (done.Sealed id count) is = is
-unrefused a (done.Committed sequence) is = is
-unrefused a done.Aborted is = is
-unrefused a (done.Opened count) is = is
-unrefused a (done.Bytes bytes) is = is
-unrefused a done.End is = is
-unrefused a done.Dropped is = is
-unrefused a (done.Deleted sequence) is = is
-unrefused a (done.Listed files) is = is
-unrefused a (done.Started snapshot) is = is
-unrefused a (done.Did phase) is = is
-unrefused a (done.Collected freed copied) is = is
-unrefused a (done.Counted files segments bytes used free) is = is
-unrefused a (done.Unique segments bytes) is = is
-unrefused a (done.Reopened files) is = is
+unrefused a other is = is
 
 -- no write that failed
 abbrev pub IsOther : Refusal → Type 0

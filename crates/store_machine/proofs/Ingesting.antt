@@ -10,6 +10,8 @@ use Rattle.store_machine.specs.Done as done
 use Rattle.store_machine.specs.Ingests.{EndsCommitting}
 use Rattle.store_machine.specs.Lines.{Commits, with_session}
 use Rattle.store_machine.proofs.Quiet.{IsSure, running_sure, F, Goes, Quiet, Step, due_is_quiet, quiet_of, step_quiet, turns_go}
+use Rattle.store_machine.specs.Machine.{Machine, Stepped}
+use Rattle.store_machine.specs.Values.{Values}
 
 abbrev pub D : Type 0
 D = Desk (List ℕ) (List (List ℕ))
@@ -19,9 +21,10 @@ D = Desk (List ℕ) (List (List ℕ))
 pub run_one : (x : Step) (ss : List Step) (m n : F) → ss ≡ x ∷ [] → Run of_files ss m n → Legal of_files x m n
 run_one x ss m n is run = let one = subst (λ (xs : List Step). Run of_files xs m n) is run in subst (Legal of_files x m) (sym one.1.1) one.1.0
 
-pub run_parts : (xs ys : List Step) (m n : F) → Run of_files (xs ++ ys) m n → (mid : F) × Run of_files xs m mid × Run of_files ys mid n
-run_parts [] ys m n run = (m, refl, run)
-run_parts (x ∷ xs) ys m n (next, (legal, run)) = let rest = run_parts xs ys next n run in (rest.0, (next, (legal, rest.1)), rest.2)
+pub run_parts : {V R : Type 0} (v : Values V R) (xs ys : List (Stepped V)) (m n : Machine V R) → Run v (xs ++ ys) m n
+    → (mid : Machine V R) × Run v xs m mid × Run v ys mid n
+run_parts v [] ys m n run = (m, refl, run)
+run_parts v (x ∷ xs) ys m n (next, (legal, run)) = let rest = run_parts v xs ys next n run in (rest.0, (next, (legal, rest.1)), rest.2)
 
 -- ---- what is so after a line
 
@@ -86,7 +89,7 @@ module _ (now : Found (List ℕ)) (d e : D) (ss : List Step) (run : Run of_files
       let turned = turns_go a made s t d.machine e.machine ready.runs turns (subst (λ (xs : List Step). Run of_files xs d.machine e.machine) is run) in
       refused_went now refusal reply given d e reply_is ready.same (quiet_of d.machine e.machine turned.goes)
   stopped_went a s t reply given (made, turns, (refusal, reply_is, inr (step, due, (told, is, by)))) =
-      let parts = run_parts made (step_of of_files a step told ∷ []) d.machine e.machine (subst (λ (xs : List Step). Run of_files xs d.machine e.machine) is run) in
+      let parts = run_parts of_files made (step_of of_files a step told ∷ []) d.machine e.machine (subst (λ (xs : List Step). Run of_files xs d.machine e.machine) is run) in
       let turned = turns_go a made s t d.machine parts.0 ready.runs turns parts.1 in
       let legal = run_one (step_of of_files a step told) (step_of of_files a step told ∷ []) parts.0 e.machine refl parts.2 in
       let last : Quiet parts.0 e.machine = step_quiet a step told parts.0 e.machine (due_is_quiet t step due) turned.goes.state legal in
@@ -243,7 +246,7 @@ module _ (now : Found (List ℕ)) (d e : D) (ss : List Step) (run : Run of_files
       let turned = turns_go a made s t d.machine e.machine ready.runs turns (subst (λ (xs : List Step). Run of_files xs d.machine e.machine) is run) in
       (refusal, reply_is, quiet_of d.machine e.machine turned.goes)
   stopped_quiet a s t reply (made, turns, (refusal, reply_is, inr (step, due, (told, is, by)))) =
-      let parts = run_parts made (step_of of_files a step told ∷ []) d.machine e.machine (subst (λ (xs : List Step). Run of_files xs d.machine e.machine) is run) in
+      let parts = run_parts of_files made (step_of of_files a step told ∷ []) d.machine e.machine (subst (λ (xs : List Step). Run of_files xs d.machine e.machine) is run) in
       let turned = turns_go a made s t d.machine parts.0 ready.runs turns parts.1 in
       let legal = run_one (step_of of_files a step told) (step_of of_files a step told ∷ []) parts.0 e.machine refl parts.2 in
       let last : Quiet parts.0 e.machine = step_quiet a step told parts.0 e.machine (due_is_quiet t step due) turned.goes.state legal in
@@ -325,7 +328,7 @@ module _ (now : Found (List ℕ)) (d e : D) (ss : List Step) (run : Run of_files
   commit_line name given reply gives (s, t, moves, inr stop) = let quiet = stopped_quiet 0 s t reply stop in quiet_put name given reply quiet.0 quiet.1 quiet.2
   commit_line name given reply gives (s, t, (was, sessions), inl (made, turns, nothing, (told, is, by))) =
       let step = step_of of_files 0 (asked.Commit name t.given) told in
-      let parts = run_parts made (step ∷ []) d.machine e.machine (subst (λ (xs : List Step). Run of_files xs d.machine e.machine) is run) in
+      let parts = run_parts of_files made (step ∷ []) d.machine e.machine (subst (λ (xs : List Step). Run of_files xs d.machine e.machine) is run) in
       let turned = turns_go 0 made s t d.machine parts.0 ready.runs turns parts.1 in
       let legal = run_one step (step ∷ []) parts.0 e.machine refl parts.2 in
       let own : s ≡ gives.session = same_session s gives.session (sym was ∙ gives.is) in

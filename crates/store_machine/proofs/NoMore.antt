@@ -178,24 +178,12 @@ module _ (m n : F) (r t : G) (was : Forgets m r) (now : Forgets n t) where
   -- nothing is added to a refusal for what the actor is at
   wrong_part : (a : ℕ) (step : Asked (List ℕ)) (kind : PartKind) → AddsToRefused a step (refusals.WrongPart kind) m t
   wrong_part a (asked.Claim seg) kind = tt
-  wrong_part a (asked.Seal offered) kind = tt
-  wrong_part a (asked.Commit name file) kind = tt
-  wrong_part a asked.ReadNext kind = tt
-  wrong_part a (asked.GcStart percent) kind = tt
-  wrong_part a asked.GcStep kind = tt
-  wrong_part a asked.Unique kind = tt
-  wrong_part a step kind = tt
+  wrong_part a other kind = tt
 
   -- nor because it is stopped
   when_stopped : (a : ℕ) (step : Asked (List ℕ)) (at : ℕ) → AddsToRefused a step (refusals.Stopped at) m t
   when_stopped a (asked.Claim seg) at = tt
-  when_stopped a (asked.Seal offered) at = tt
-  when_stopped a (asked.Commit name file) at = tt
-  when_stopped a asked.ReadNext at = tt
-  when_stopped a (asked.GcStart percent) at = tt
-  when_stopped a asked.GcStep at = tt
-  when_stopped a asked.Unique at = tt
-  when_stopped a step at = tt
+  when_stopped a other at = tt
 
   all_refused : (a : ℕ) (step : Asked (List ℕ)) (refusal : Refusal) → Refuses of_files a step refusal m n → AddsToRefused a step refusal m t
   all_refused a step (refusals.WrongPart kind) refuses = wrong_part a step kind

@@ -1,9 +1,9 @@
 -- Parts and collections of a machine of files and of one of roots that has forgotten the rest.
-use Rattle.store_machine.proofs.Prelude.{◌≡◌, ℕ, zero, suc, [], ◌∷◌, ◌++◌, map, replicate, slice_index_or, slice_set, Option, Some, None, option_map, refl, sym, ◌∙◌, ap, subst, PinMap, Root, Top, Phase, Store, IsCollecting, Rests, SamePart, forget_collection, Collection, Machine, Part, Idle, Writing, Reading, keeping, kind_of, keys_kept, values_read}
+use Rattle.store_machine.proofs.Prelude.{ACTORS, Collection, Found, Idle, IsCollecting, Machine, None, Option, Part, Phase, PinMap, Reading, Rests, Root, RunState, Running, SamePart, Some, Store, Top, Writing, [], all_idle, ap, false, forget_collection, keeping, keys_kept, kind_of, last_id, map, one_more, option_map, put_at, refl, replicate, slice_index_or, slice_set, subst, suc, sym, values_read, zero, ℕ, ◌++◌, ◌∙◌, ◌∷◌, ◌≡◌}
 use Rattle.std.proofs.Common.{List}
 use Rattle.std.specs.FinMap as finite
 use Rattle.store_model.specs.Trees.{root_of}
-use Rattle.store_machine.specs.Forgetting.{SameParts}
+use Rattle.store_machine.specs.Forgetting.{Forgets, SameNow, SameParts, SameState}
 
 abbrev pub F : Type 0
 F = Machine (List ℕ) (List (List ℕ))
@@ -39,14 +39,9 @@ all_same (suc n) = (tt, all_same n)
 
 pub kind_same : (p : FilePart) (q : RootPart) → SamePart p q → kind_of q ≡ kind_of p
 kind_same Idle Idle same = refl
-kind_same Idle (Writing pins) same = absurd same
-kind_same Idle (Reading root tops) same = absurd same
-kind_same (Writing pins) Idle same = absurd same
 kind_same (Writing pins) (Writing others) same = refl
-kind_same (Writing pins) (Reading root tops) same = absurd same
-kind_same (Reading file rest) Idle same = absurd same
-kind_same (Reading file rest) (Writing pins) same = absurd same
 kind_same (Reading file rest) (Reading root tops) same = refl
+kind_same other it same = absurd same
 
 pub idle_same : (p : FilePart) (q : RootPart) → SamePart p q → p ≡ Idle → q ≡ Idle
 idle_same Idle Idle same is = refl
@@ -78,12 +73,9 @@ reading_same (Reading own left) (Reading root tops) file rest same is =
 
 pub idle_back : (p : FilePart) (q : RootPart) → SamePart p q → q ≡ Idle → p ≡ Idle
 idle_back Idle q same is = refl
-idle_back (Writing pins) Idle same is = absurd same
 idle_back (Writing pins) (Writing others) same is = absurd (let wrong : Writing others ≡ Idle = is in cc)
-idle_back (Writing pins) (Reading root tops) same is = absurd same
-idle_back (Reading file rest) Idle same is = absurd same
-idle_back (Reading file rest) (Writing pins) same is = absurd same
 idle_back (Reading file rest) (Reading root tops) same is = absurd (let wrong : Reading root tops ≡ Idle = is in cc)
+idle_back other it same is = absurd same
 
 pub writing_back : (p : FilePart) (q : RootPart) (pins : PinMap) → SamePart p q → q ≡ Writing pins → p ≡ Writing pins
 writing_back p Idle pins same is = absurd (let wrong : Idle ≡ Writing pins = is in cc)
@@ -183,3 +175,85 @@ pub one_left : (o : Option (Collection (List ℕ))) (d : Collection Root) → op
     → (c : Collection (List ℕ)) × (o ≡ Some c) × (d ≡ forget_collection c)
 one_left None d is = absurd (let wrong : None ≡ Some d = is in cc)
 one_left (Some c) d is = (c, refl, let same : forget_collection c ≡ d = cc in sym same)
+
+-- ---- of machines of which the rest was forgotten, one thing is another
+
+module _ (m : F) (r : G) (same : Forgets m r) where
+  pub with_parts : (ps : List FilePart) (qs : List RootPart) → SameParts ps qs → Forgets (record m { parts = ps }) (record r { parts = qs })
+  with_parts ps qs parts = record {
+    now = same.now;
+    parts = parts;
+    store = same.store;
+    last_id = same.last_id;
+    forgotten = same.forgotten;
+    swept = same.swept;
+    collection = same.collection;
+    acknowledged = same.acknowledged;
+    state = same.state;
+  }
+
+  -- what an actor is at
+  pub put : (a : ℕ) (p : FilePart) (q : RootPart) → SamePart p q → Forgets (put_at m a p) (put_at r a q)
+  put a p q one = with_parts (slice_set m.parts a p) (slice_set r.parts a q) (set_at m.parts r.parts a p q same.parts one)
+
+  pub with_collection : (c : Option (Collection (List ℕ))) (d : Option (Collection Root)) → d ≡ option_map forget_collection c
+      → Forgets (record m { collection = c }) (record r { collection = d })
+  with_collection c d is = record {
+    now = same.now;
+    parts = same.parts;
+    store = same.store;
+    last_id = same.last_id;
+    forgotten = same.forgotten;
+    swept = same.swept;
+    collection = is;
+    acknowledged = same.acknowledged;
+    state = same.state;
+  }
+
+  pub with_state : (s : RunState (List ℕ)) (u : RunState Root) → SameState s u → Forgets (record m { state = s }) (record r { state = u })
+  with_state s u one = record {
+    now = same.now;
+    parts = same.parts;
+    store = same.store;
+    last_id = same.last_id;
+    forgotten = same.forgotten;
+    swept = same.swept;
+    collection = same.collection;
+    acknowledged = same.acknowledged;
+    state = one;
+  }
+
+  -- the names, by a record
+  pub with_names : (x : Found (List ℕ)) (y : Found Root) (f : Store → Store) → SameNow x y
+      → Forgets (record m { now = x; store = f m.store; acknowledged = one_more m.acknowledged })
+      (record r { now = y; store = f r.store; acknowledged = one_more r.acknowledged })
+  with_names x y f one = record {
+    now = one;
+    parts = same.parts;
+    store = ap f same.store;
+    last_id = same.last_id;
+    forgotten = same.forgotten;
+    swept = same.swept;
+    collection = same.collection;
+    acknowledged = ap one_more same.acknowledged;
+    state = same.state;
+  }
+
+-- ---- of machines that were opened just now
+
+abbrev pub fresh : {V R : Type 0} → Found V → Store → Machine V R
+fresh found store = record {
+  now = found;
+  parts = all_idle;
+  store = store;
+  last_id = last_id store.held;
+  forgotten = [];
+  swept = false;
+  collection = None;
+  acknowledged = 0;
+  state = Running;
+}
+
+pub fresh_same : (x : Found (List ℕ)) (y : Found Root) (store : Store) → SameNow x y → Forgets (fresh x store) (fresh y store)
+fresh_same x y store one =
+    record { now = one; parts = all_same ACTORS; store = refl; last_id = refl; forgotten = refl; swept = refl; collection = refl; acknowledged = refl; state = tt }

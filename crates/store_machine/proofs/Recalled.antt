@@ -1,10 +1,10 @@
 -- What is so of the machine of roots is so of a machine of files that it has forgotten, where the roots tell it.
-use Rattle.store_machine.proofs.Prelude.{◌≡◌, inl, inr, ◌≤◌, ◌<◌, ◌-◌, ◌^◌, ℕ, length, Option, Some, None, option_map, sym, ◌∙◌, ap, subst, PinMap, Root, half_cells, LAST_ID, MOST_NAMES, RESERVE, Top, Phase, Store, free_slots, CanRise, IsCollecting, Forgets, SamePart, SameState, forget_collection, HasName, HasNumbers, HasRoom, HasSlot, IsUnkept, Keeps, LacksNumbers, MayCommit, Collection, Found, Idle, Writing, Reading, Stopped, keeping, kind_of, part_in, put_at, of_files, of_roots}
+use Rattle.store_machine.proofs.Prelude.{◌≡◌, inl, inr, ◌≤◌, ◌<◌, ◌-◌, ◌^◌, ℕ, length, Option, Some, None, option_map, sym, ◌∙◌, ap, subst, PinMap, Root, half_cells, LAST_ID, MOST_NAMES, RESERVE, Top, Phase, Store, free_slots, CanRise, IsCollecting, Forgets, SamePart, SameState, forget_collection, HasName, HasNumbers, HasRoom, HasSlot, IsUnkept, Keeps, LacksNumbers, MayCommit, Collection, Found, Idle, Writing, Reading, Stopped, keeping, kind_of, part_in, of_files, of_roots}
 use Rattle.std.proofs.Common.{List}
 use Rattle.container_meta.specs.Segments.{Contents}
 use Rattle.store_model.specs.Trees.{root_of}
 use Rattle.store_machine.specs.Legal.{HasSlotAndId}
-use Rattle.store_machine.proofs.Parts.{F, G, FilePart, RootPart, ReadsFile, part_at, set_at, kind_same, idle_back, writing_back, reading_back, kept_map, collecting_back, none_left, one_left}
+use Rattle.store_machine.proofs.Parts.{F, G, ReadsFile, collecting_back, idle_back, kept_map, kind_same, none_left, one_left, part_at, reading_back, with_state, writing_back}
 use Rattle.store_machine.proofs.SameNames.{knows_same, len_same}
 
 module _ (m : F) (r : G) (same : Forgets m r) where
@@ -77,20 +77,6 @@ module _ (m : F) (r : G) (same : Forgets m r) where
 
   -- ---- what is left of a step
 
-  -- the same, but that an actor is at another thing
-  pub put : (a : ℕ) (p : FilePart) (q : RootPart) → SamePart p q → Forgets (put_at m a p) (put_at r a q)
-  put a p q one = record {
-    now = same.now;
-    parts = set_at m.parts r.parts a p q same.parts one;
-    store = same.store;
-    last_id = same.last_id;
-    forgotten = same.forgotten;
-    swept = same.swept;
-    collection = same.collection;
-    acknowledged = same.acknowledged;
-    state = same.state;
-  }
-
   -- a step of the machine of files came to what this one of roots has forgotten
   abbrev pub Recalls : (F → Type 0) → G → Type 0
   Recalls P t = (n : F) × P n × Forgets n t
@@ -103,14 +89,4 @@ module _ (m : F) (r : G) (same : Forgets m r) where
 
   pub stop : (P : F → Type 0) (t : G) (other : Option (Found (List ℕ))) (found : Option (Found Root)) (stores others : List Store) → t ≡ record r { state = Stopped found others }
       → SameState (Stopped other stores) (Stopped found others) → P (record m { state = Stopped other stores }) → Recalls P t
-  stop P t other found stores others is one holds = goes P t (record r { state = Stopped found others }) (record m { state = Stopped other stores }) is holds (record {
-    now = same.now;
-    parts = same.parts;
-    store = same.store;
-    last_id = same.last_id;
-    forgotten = same.forgotten;
-    swept = same.swept;
-    collection = same.collection;
-    acknowledged = same.acknowledged;
-    state = one;
-  })
+  stop P t other found stores others is one holds = goes P t (record r { state = Stopped found others }) (record m { state = Stopped other stores }) is holds (with_state m r same (Stopped other stores) (Stopped found others) one)

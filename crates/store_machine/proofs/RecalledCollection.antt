@@ -4,8 +4,9 @@ use Rattle.std.proofs.Common.{List, slice_get}
 use Rattle.refusals.specs.declared.refusal.Phase.TheVariants as phases
 use Rattle.store_machine.specs.Collecting.{Ends, Goes, Went}
 use Rattle.store_machine.proofs.Forgotten.{started, root_started, begun_same}
-use Rattle.store_machine.proofs.Parts.{F, G}
+use Rattle.store_machine.proofs.Parts.{F, G, with_collection}
 use Rattle.store_machine.proofs.Recalled.{Recalls, goes, none_runs, on_store, one_runs}
+use Rattle.store_machine.specs.Machine.{Sweep}
 
 module _ (m : F) (r : G) (same : Forgets m r) where
   -- what is left of a step, that is of this kind
@@ -17,17 +18,8 @@ module _ (m : F) (r : G) (same : Forgets m r) where
       goes m r same (λ n. Begins of_files percent snapshot m n) t (record r { collection = Some (root_started m r same percent snapshot) })
       (record m { collection = Some (started m r same percent snapshot) }) others
       (none_runs m r same none, is ∙ ap suc same.last_id, refl)
-      (record {
-        now = same.now;
-        parts = same.parts;
-        store = same.store;
-        last_id = same.last_id;
-        forgotten = same.forgotten;
-        swept = same.swept;
-        collection = ap Some (begun_same m r same percent snapshot);
-        acknowledged = same.acknowledged;
-        state = same.state;
-      })
+      (with_collection m r same (Some (started m r same percent snapshot)) (Some (root_started m r same percent snapshot))
+      (ap Some (begun_same m r same percent snapshot)))
 
   -- ---- what each kind of step does, of a collection c, to what it leaves, w
 
@@ -68,7 +60,7 @@ module _ (m : F) (r : G) (same : Forgets m r) where
 
     -- a source that was left alone was none of the machine of files
     copies : Copies of_roots (forget_collection c) r w → AddsToPhase phases.Copy c (after c w) m t → Copies of_files c m w
-    copies (s, u, next, stage, then, recorded, changes, some, ready, more, over, inl (source, entry, next_is, inl ends)) adds =
+    copies (s, u, next, stage, then, recorded, changes, some, ready, more, over, ends) adds =
         let told = adds s u next stage then in (
           s,
           u,
@@ -81,53 +73,16 @@ module _ (m : F) (r : G) (same : Forgets m r) where
           ready,
           more_left s.filled u.filled more,
           (λ known. subst (GoesOver of_files c m.store s u m.forgotten) left told.0),
-          inl (source, entry, on_store m r same (λ (x : Store). next ≡ next_of x.held (sources_in c) u) next_is, inl ends),
+          elim ends [
+            | inl (source, entry, next_is, inr (inr (unknown, filled, waiting, none))) ↦ inl (source, entry, still s u next next_is, inr (inl (filled, waiting, told.1 source filled)))
+            | inl (source, entry, next_is, inr (inl ends)) ↦ inl (source, entry, still s u next next_is, inr (inl ends))
+            | inl (source, entry, next_is, inl ends) ↦ inl (source, entry, still s u next next_is, inl ends)
+            | inr stops ↦ inr stops
+          ],
         )
-    copies (s, u, next, stage, then, recorded, changes, some, ready, more, over, inl (source, entry, next_is, inr (inl ends))) adds =
-        let told = adds s u next stage then in (
-          s,
-          u,
-          next,
-          stage,
-          then,
-          recorded,
-          changes,
-          some,
-          ready,
-          more_left s.filled u.filled more,
-          (λ known. subst (GoesOver of_files c m.store s u m.forgotten) left told.0),
-          inl (source, entry, on_store m r same (λ (x : Store). next ≡ next_of x.held (sources_in c) u) next_is, inr (inl ends)),
-        )
-    copies (s, u, next, stage, then, recorded, changes, some, ready, more, over, inl (source, entry, next_is, inr (inr (unknown, filled, waiting, none)))) adds =
-        let told = adds s u next stage then in (
-          s,
-          u,
-          next,
-          stage,
-          then,
-          recorded,
-          changes,
-          some,
-          ready,
-          more_left s.filled u.filled more,
-          (λ known. subst (GoesOver of_files c m.store s u m.forgotten) left told.0),
-          inl (source, entry, on_store m r same (λ (x : Store). next ≡ next_of x.held (sources_in c) u) next_is, inr (inl (filled, waiting, told.1 source filled))),
-        )
-    copies (s, u, next, stage, then, recorded, changes, some, ready, more, over, inr stops) adds =
-        let told = adds s u next stage then in (
-          s,
-          u,
-          next,
-          stage,
-          then,
-          recorded,
-          changes,
-          some,
-          ready,
-          more_left s.filled u.filled more,
-          (λ known. subst (GoesOver of_files c m.store s u m.forgotten) left told.0),
-          inr stops,
-        )
+      where
+        still : (s u : Sweep) (next : Phase) → next ≡ next_of r.store.held (sources_in (forget_collection c)) u → next ≡ next_of m.store.held (sources_in c) u
+        still s u next next_is = on_store m r same (λ (x : Store). next ≡ next_of x.held (sources_in c) u) next_is
 
     flushes : Flushes of_roots (forget_collection c) r w → AddsToPhase phases.Flush c (after c w) m t → Flushes of_files c m w
     flushes (s, u, kind, segments, stage, changes, keys, u_is, next, recorded, forgotten, known) adds = (
@@ -238,14 +193,4 @@ module _ (m : F) (r : G) (same : Forgets m r) where
         copied_is = e.copied_is ∙ ap (λ (d : Collection Root). length (keys_written d.changes)) d_is;
         others = refl;
       })
-      (record {
-        now = same.now;
-        parts = same.parts;
-        store = same.store;
-        last_id = same.last_id;
-        forgotten = same.forgotten;
-        swept = same.swept;
-        collection = refl;
-        acknowledged = same.acknowledged;
-        state = same.state;
-      })
+      (with_collection m r same None None refl)

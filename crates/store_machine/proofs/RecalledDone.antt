@@ -1,14 +1,14 @@
 -- A step that the machine of roots does, no step of a collection, is one that the machine of files does.
 use Rattle.store_machine.proofs.Prelude.{◌≡◌, ◌+◌, ℕ, suc, [], ◌∷◌, Contains, refl, sym, ◌∙◌, ap, subst, PinMap, pin_of, KindSegment, segment_key, Root, Put, Gone, start_of, PartKind, segments_of, with_change, Forgets, Rests, SamePart, Claims, Deletes, GivesBytes, GivesUp, IsAtEnd, OpensValue, Seals, with_name, without_name, Idle, Writing, Reading, keeping, one_more, part_in, put_at, HasCopy, ComesNext, of_files, of_roots, top_of}
-use Rattle.std.proofs.Common.{List, take}
+use Rattle.std.proofs.Common.{List, slice_set, take}
 use Rattle.std.specs.FinMap as finite
 use Rattle.container_meta.specs.Segments.{Contents}
 use Rattle.store_model.specs.Trees.{root_of}
 use Rattle.store_machine.specs.Legal.{AllFit, Commits}
 use Rattle.store_machine.specs.Remembering.{IsWhole}
 use Rattle.store_machine.proofs.AddedSame.{all_added_back, sealed_same}
-use Rattle.store_machine.proofs.Parts.{F, G, set_at, set_told}
-use Rattle.store_machine.proofs.Recalled.{Recalls, goes, stays, put, idle, kept_now, keeps_back, kind_is, knows, may_commit, numbers, reading}
+use Rattle.store_machine.proofs.Parts.{F, G, put, set_told, with_collection, with_names, with_parts}
+use Rattle.store_machine.proofs.Recalled.{Recalls, goes, stays, idle, kept_now, keeps_back, kind_is, knows, may_commit, numbers, reading}
 use Rattle.store_machine.proofs.SameNames.{file_back, gone_same, put_same}
 use Rattle.store_machine.proofs.Walks.{ends_back, start_both}
 
@@ -30,17 +30,8 @@ module _ (m : F) (r : G) (same : Forgets m r) where
         same = λ known. copy;
         others = refl;
       })
-      (record {
-        now = same.now;
-        parts = set_at m.parts r.parts a (Writing part) (Writing part) same.parts refl;
-        store = same.store;
-        last_id = same.last_id;
-        forgotten = same.forgotten;
-        swept = same.swept;
-        collection = kept_now m r same keys;
-        acknowledged = same.acknowledged;
-        state = same.state;
-      })
+      (with_collection (put_at m a (Writing part)) (put_at r a (Writing part)) (put m r same a (Writing part) (Writing part) refl)
+      (keeping keys m.collection) (keeping keys r.collection) (kept_now m r same keys))
 
   pub sealed : (a : ℕ) (offered : List Contents) (id count : ℕ) (t : G) → Seals of_roots a offered id count r t → AllFit of_files (take count offered) m
       → Left (λ n. Seals of_files a offered id count m n) t
@@ -83,17 +74,8 @@ module _ (m : F) (r : G) (same : Forgets m r) where
         sequence_is = c.sequence_is ∙ ap suc same.now.last_is;
         others = refl;
       })
-      (record {
-        now = put_same m.now r.now same.now name file few;
-        parts = set_at m.parts r.parts a Idle Idle same.parts tt;
-        store = ap (with_change name (Put (root_of file))) same.store;
-        last_id = same.last_id;
-        forgotten = same.forgotten;
-        swept = same.swept;
-        collection = same.collection;
-        acknowledged = ap one_more same.acknowledged;
-        state = same.state;
-      })
+      (with_names (put_at m a Idle) (put_at r a Idle) (put m r same a Idle Idle tt) (with_name of_files name file m.now)
+      (with_name of_roots name (root_of file) r.now) (with_change name (Put (root_of file))) (put_same m.now r.now same.now name file few))
 
   pub deleted : (name : List ℕ) (sequence : ℕ) (t : G) → Deletes of_roots name sequence r t → Left (λ n. Deletes of_files name sequence m n) t
   deleted name sequence t c =
@@ -107,17 +89,7 @@ module _ (m : F) (r : G) (same : Forgets m r) where
         sequence_is = c.sequence_is ∙ ap suc same.now.last_is;
         others = refl;
       })
-      (record {
-        now = gone_same m.now r.now same.now name;
-        parts = same.parts;
-        store = ap (with_change name Gone) same.store;
-        last_id = same.last_id;
-        forgotten = same.forgotten;
-        swept = same.swept;
-        collection = same.collection;
-        acknowledged = ap one_more same.acknowledged;
-        state = same.state;
-      })
+      (with_names m r same (without_name of_files name m.now) (without_name of_roots name r.now) (with_change name Gone) (gone_same m.now r.now same.now name))
 
   -- the name's root is that of its file, and all of it is to come either way
   pub opened : (a : ℕ) (name : List ℕ) (count : ℕ) (t : G) → OpensValue of_roots a name count r t → Left (λ n. OpensValue of_files a name count m n) t
@@ -133,17 +105,8 @@ module _ (m : F) (r : G) (same : Forgets m r) where
   given a bytes t (root, tops, after, was, gives, others) (file, rest, is, one) =
       goes m r same (λ n. GivesBytes of_files a bytes m n) t (put_at r a (Reading root after)) (put_at m a (Reading file rest)) others
       (file, bytes ∷ rest, rest, is, refl, refl)
-      (record {
-        now = same.now;
-        parts = set_told m.parts r.parts a (Reading file rest) (Reading root after) same.parts (subst (λ (x : G). SamePart (Reading file rest) (part_in x a)) others one);
-        store = same.store;
-        last_id = same.last_id;
-        forgotten = same.forgotten;
-        swept = same.swept;
-        collection = same.collection;
-        acknowledged = same.acknowledged;
-        state = same.state;
-      })
+      (with_parts m r same (slice_set m.parts a (Reading file rest)) (slice_set r.parts a (Reading root after))
+      (set_told m.parts r.parts a (Reading file rest) (Reading root after) same.parts (subst (λ (x : G). SamePart (Reading file rest) (part_in x a)) others one)))
 
   pub at_end : (a : ℕ) (t : G) → IsAtEnd of_roots a r t → Left (λ n. IsAtEnd of_files a m n) t
   at_end a t (root, tops, was, ends, others) =

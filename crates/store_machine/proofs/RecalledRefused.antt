@@ -1,6 +1,6 @@
 -- What the machine of roots refuses the machine of files refuses, where its content tells it.
 use Rattle.store_machine.proofs.Prelude.{◌≡◌, inl, inr, ◌<◌, ◌≤◌, ℕ, [], ◌∷◌, Some, None, refl, sym, ◌∙◌, ap, subst, KindSegment, Put, Gone, LAST_ID, MOST_NAMES, Top, Refusal, free_slots, Asked, Forgets, Rests, SamePart, asked_of, IsAtRightPart, Refuses, RefusesClaim, RefusesCommit, RefusesDelete, RefusesGcStep, RefusesOn, RefusesRead, RefusesSeal, RefusesUnique, broken_by, with_name, without_name, Reading, part_in, put_at, AddsToRefused, IsStuck, StaysAt, of_files, of_roots}
-use Rattle.std.proofs.Common.{List}
+use Rattle.std.proofs.Common.{List, slice_set}
 use Rattle.container_meta.specs.Segments.{Contents}
 use Rattle.refusals.specs.declared.refusal.Phase.TheVariants as phases
 use Rattle.refusals.specs.declared.refusal.Refusal.TheVariants as refusals
@@ -9,7 +9,7 @@ use Rattle.store_machine.specs.Asked as asked
 use Rattle.store_machine.specs.Offers.{sealed_in, stores_with_some}
 use Rattle.store_machine.proofs.AddedSame.{stores_same}
 use Rattle.store_machine.proofs.Forgotten.{taken_same}
-use Rattle.store_machine.proofs.Parts.{F, G, put_told, set_told}
+use Rattle.store_machine.proofs.Parts.{F, G, put_told, set_told, with_parts}
 use Rattle.store_machine.proofs.Recalled.{Recalls, goes, stays, stop, id_back, keeps_back, kind_is, knows, may_commit, no_numbers, none_runs, numbers, on_id, on_store, reading, rooms, runs, slot_back, unkept_back, writing}
 use Rattle.store_machine.proofs.SameNames.{gone_same, len_same, none_back, put_same}
 use Rattle.store_machine.proofs.Walks.{ends_both}
@@ -102,17 +102,8 @@ module _ (m : F) (r : G) (same : Forgets m r) where
       subst (SamePart (Reading reads.file reads.rest)) (put_told r.parts a root tops (Reading root after) was) told in
       goes m r same (λ n. RefusesRead of_files a refusals.DiskRead m n) t (put_at r a (Reading root after)) (put_at m a (Reading reads.file reads.rest)) others
       (reads.file, reads.rest, reads.rest, reads.reads, refused_rest reads.file reads.rest after rests.1 stuck, refl)
-      (record {
-        now = same.now;
-        parts = set_told m.parts r.parts a (Reading reads.file reads.rest) (Reading root after) same.parts told;
-        store = same.store;
-        last_id = same.last_id;
-        forgotten = same.forgotten;
-        swept = same.swept;
-        collection = same.collection;
-        acknowledged = same.acknowledged;
-        state = same.state;
-      })
+      (with_parts m r same (slice_set m.parts a (Reading reads.file reads.rest)) (slice_set r.parts a (Reading root after))
+      (set_told m.parts r.parts a (Reading reads.file reads.rest) (Reading root after) same.parts told))
 
   -- no other refusal comes of what a reader is stuck at
   not_stuck : (A : Type 0) (refusal : Refusal) (tops : List Top) → ((ts : List Top) (x : Top) → IsStuck (x ∷ ts) refusal → A) → IsStuck tops refusal → A

@@ -1,5 +1,5 @@
 -- A step of the machine of roots is one of the machine of files, where what the content of a disk adds is so.
-use Rattle.store_machine.proofs.Prelude.{inl, inr, ℕ, false, [], Some, None, Result, Ok, Err, refl, ◌∙◌, ap, subst, ACTORS, Root, Refusal, last_id, Asked, Done, Forgets, SameNow, SameState, asked_of, Answers, ByState, Does, LegalBy, counted, Writing, RunState, Running, Stopped, all_idle, put_at, Reopens, freeing, AddsBy, AddsToAnswer, AddsToDone, AddsToOpening, of_files, of_roots}
+use Rattle.store_machine.proofs.Prelude.{inl, inr, ℕ, [], Some, None, Result, Ok, Err, refl, ◌∙◌, ap, subst, Root, Refusal, Asked, Done, Forgets, SameNow, SameState, asked_of, Answers, ByState, Does, LegalBy, counted, Writing, RunState, Running, Stopped, put_at, Reopens, freeing, AddsBy, AddsToAnswer, AddsToDone, AddsToOpening, of_files, of_roots}
 use Rattle.std.proofs.Common.{List}
 use Rattle.std.specs.FinMap as finite
 use Rattle.refusals.specs.declared.refusal.PartKind.TheVariants as kinds
@@ -9,8 +9,8 @@ use Rattle.store_machine.specs.Done as done
 use Rattle.store_machine.specs.Opening.{Opens}
 use Rattle.store_machine.specs.Remembering.{FindsFiles, StepsAreRemembered}
 use Rattle.store_machine.proofs.Forgotten.{still_same}
-use Rattle.store_machine.proofs.Parts.{F, G, all_same}
-use Rattle.store_machine.proofs.Recalled.{Recalls, goes, stays, put, idle, keeps_back}
+use Rattle.store_machine.proofs.Parts.{F, G, fresh, fresh_same, put, with_state}
+use Rattle.store_machine.proofs.Recalled.{Recalls, goes, stays, idle, keeps_back}
 use Rattle.store_machine.proofs.RecalledCollection.{begun, ended, gone_on}
 use Rattle.store_machine.proofs.RecalledDone.{at_end, claimed, committed, deleted, given, given_up, opened, sealed}
 use Rattle.store_machine.proofs.RecalledRefused.{refused_back}
@@ -68,28 +68,8 @@ module _ (m : F) (r : G) (same : Forgets m r) where
   opened_again : (files : ℕ) (t : G) → Opens of_roots files r t → FindsFiles m t → Left (λ n. Opens of_files files m n) t
   opened_again files t o finds =
       let roots : SameNow finds.found o.found = subst (SameNow finds.found) (ap (λ (x : G). x.now) o.others) finds.roots in
-      let n : F = record {
-        now = finds.found;
-        parts = all_idle;
-        store = t.store;
-        last_id = last_id t.store.held;
-        forgotten = [];
-        swept = false;
-        collection = None;
-        acknowledged = 0;
-        state = Running;
-      } in
-      goes m r same (λ n. Opens of_files files m n) t (record {
-        now = o.found;
-        parts = all_idle;
-        store = t.store;
-        last_id = last_id t.store.held;
-        forgotten = [];
-        swept = false;
-        collection = None;
-        acknowledged = 0;
-        state = Running;
-      }) n o.others
+      let n : F = fresh finds.found t.store in
+      goes m r same (λ n. Opens of_files files m n) t (fresh o.found t.store) n o.others
       (record {
         found = finds.found;
         may = λ told. finds.may;
@@ -102,7 +82,7 @@ module _ (m : F) (r : G) (same : Forgets m r) where
         reserve = o.reserve;
         others = refl;
       })
-      (record { now = roots; parts = all_same ACTORS; store = refl; last_id = refl; forgotten = refl; swept = refl; collection = refl; acknowledged = refl; state = tt })
+      (fresh_same finds.found o.found t.store roots)
 
   reopened : (told : Result Done Refusal) (t : G) → Reopens of_roots told r t → AddsToOpening told m r t → Left (λ n. Reopens of_files told m n) t
   reopened (Ok (done.Reopened files)) t opens adds = opened_again files t opens adds
@@ -111,17 +91,7 @@ module _ (m : F) (r : G) (same : Forgets m r) where
   reopened (Err refusal) t (may, inr (stores, others, why, known)) adds =
       goes m r same (λ n. Reopens of_files (Err refusal) m n) t (record r { state = freeing of_roots stores r.state }) (record m { state = freeing of_files stores m.state }) others
       (adds.0, inr (stores, refl, why, λ told. adds.1 stores (ap (λ (x : G). x.state) others)))
-      (record {
-        now = same.now;
-        parts = same.parts;
-        store = same.store;
-        last_id = same.last_id;
-        forgotten = same.forgotten;
-        swept = same.swept;
-        collection = same.collection;
-        acknowledged = same.acknowledged;
-        state = still_same m r same stores m.state r.state same.state;
-      })
+      (with_state m r same (freeing of_files stores m.state) (freeing of_roots stores r.state) (still_same m r same stores m.state r.state same.state))
 
   -- ---- a step
 

@@ -1,5 +1,5 @@
 -- A collection that runs, step by step: what held of it since it began holds after each step; and at its end it has done what it selected.
-use Rattle.store_machine.proofs.Prelude.{◌≡◌, ◌≢◌, ◌⊎◌, ◌↔◌, ◌<◌, ◌≤◌, ◌+◌, inl, inr, ⊎_elim, ℕ, zero, suc, [], ◌∷◌, ◌++◌, get_or, length, Contains, Some, refl, sym, ◌∙◌, ap, subst, arith, true, nat_lt, Bool, false, cases_eq, Contains-append_cases, Contains-append_left, Contains-push, Contains-push_cases, AllByRecursion, Kind, Segment, segment_key, HeaderValue, header_of, ContainerLiveness, Phase, Store, first_free, free_slots, with_slot, FlushContainer, FreeContainer, StoreChange, EachOnce, HasIds, IsWrittenBy, TakesKey, Chooses, Copies, Flushes, GoesOver, Makes, last_by, Marks, Records, Releases, freed_in, keys_written, marking, next_of, no_sweep, sources_in, Collection, Machine, Marking, Recording, Sweeping, Sweep, keys_of, Values}
+use Rattle.store_machine.proofs.Prelude.{AllByRecursion, Bool, Chooses, Collection, ContainerLiveness, Contains, Contains-append_cases, Contains-append_left, Contains-push, Contains-push_cases, Copies, EachOnce, FlushContainer, Flushes, FreeContainer, GoesOver, HasIds, HeaderValue, IsWrittenBy, Kind, Machine, Makes, Marking, Marks, Phase, Records, Releases, Segment, Some, Store, StoreChange, Sweep, Sweeping, TakesKey, Values, [], ap, arith, cases_eq, false, first_free, free_slots, freed_in, get_or, header_of, inl, inr, keys_of, keys_written, last_by, length, marking, nat_lt, next_of, no_sweep, refl, segment_key, sources_in, subst, suc, sym, true, with_slot, zero, ℕ, ⊎_elim, ◌++◌, ◌+◌, ◌<◌, ◌↔◌, ◌∙◌, ◌∷◌, ◌≡◌, ◌≢◌, ◌≤◌, ◌⊎◌}
 use Rattle.std.proofs.Common.{List, ◌&&◌}
 use Rattle.std.proofs.lemmas.List.{append-nil}
 use Rattle.std.proofs.lemmas.Option.{same_Some}
@@ -74,8 +74,7 @@ module _ {V R : Type 0} where
       where
         at_stage : (st : Stage) → AtStage c since.gone st → AtStage (record c { keys = needed }) since.gone st
         at_stage (Marking left) at = at
-        at_stage Recording at = at
-        at_stage (Sweeping next s) at = at
+        at_stage other at = at
 
   -- one more container was sealed
   pub sealed : (m k n : Machine V R) (c : Collection V) (S S' : HeaderValue → Type 0) (T T' : List ℕ → Type 0) → Since m k c S T
@@ -95,9 +94,7 @@ module _ {V R : Type 0} where
   }
     where
       at_stage : (st : Stage) → AtStage c since.gone st → AtStage (record c { keys = needed }) since.gone st
-      at_stage (Marking left) at = at
-      at_stage Recording at = at
-      at_stage (Sweeping next s) at = at
+      at_stage other at = at
 
       one_more : (g : HeaderValue) → (S' g ⊎ IsWrittenBy c.changes g) ↔ ((S g ⊎ IsWrittenBy c.changes g) ⊎ (g ≡ h))
       one_more g = (to, from)

@@ -1,5 +1,5 @@
 -- What the turns of a session have put into a store, and left out of it: pieces of its file, each of them once.
-use Rattle.store_machine.proofs.Prelude.{◌≡◌, inl, inr, ◌∙◌, ◌≤◌, ℕ, true, false, [], ◌∷◌, ◌++◌, length, Contains, Some, None, Result, Ok, refl, sym, ap, subst, arith, AllByRecursion, Kind, KindSegment, Segment, segment_key, segments_of, Answer, Refusal, Store, SealContainer, ChangeName, FlushContainer, FreeContainer, StoreChange, last_id, Claim, due_in, IsDueFor, History, HasHistory, SessionState, turn_node, IsSettled, of_kind, IsIn, Asked, Done, Makes, Claims, Does, Legal, Seals, AreTurns, IsDueStep, NothingIsDue, Session, answer_of, new_session, Running, Run, of_files, IsDueOf}
+use Rattle.store_machine.proofs.Prelude.{AllByRecursion, Answer, AreTurns, Asked, ChangeName, Claim, Claims, Contains, Does, Done, HasHistory, History, IsDueFor, IsDueOf, IsDueStep, IsIn, IsSettled, Kind, KindSegment, Legal, Makes, None, NothingIsDue, Ok, Refusal, Result, Run, Running, SealContainer, Seals, Segment, Session, SessionState, Some, Store, StoreChange, [], answer_of, ap, arith, due_in, false, inl, inr, last_id, length, new_session, of_files, of_kind, refl, segment_key, segments_of, subst, sym, true, turn_node, ℕ, ◌++◌, ◌∙◌, ◌∷◌, ◌≡◌, ◌≤◌}
 use Rattle.std.proofs.Common.{List, append_assoc, append-nil, take}
 use Rattle.std.proofs.lemmas.Option.{same_Some}
 use Rattle.actor_parts.specs.declared.step.Answer.TheVariants as answers
@@ -42,8 +42,7 @@ seal_on : (given more : List ℕ) (change : StoreChange) → IsSealFor given cha
 seal_on given more (SealContainer id kind segments) (offered, (part, rest, is, due), one) =
     (offered, (part, rest ++ more, ap (λ (g : List ℕ). g ++ more) is ∙ append_assoc part rest more, due), one)
 seal_on given more (ChangeName name change) is = absurd is
-seal_on given more (FlushContainer id kind segments) is = absurd is
-seal_on given more (FreeContainer slot) is = absurd is
+seal_on given more other is = absurd is
 
 seals_on : (given more : List ℕ) (changes : List StoreChange) → AllByRecursion (IsSealFor given) changes → AllByRecursion (IsSealFor (given ++ more)) changes
 seals_on given more [] all = tt

@@ -19,6 +19,7 @@ use Rattle.store_machine.proofs.Pinned.{new_pinned, pinned_ended, pinned_more}
 use Rattle.store_machine.proofs.Quiet.{same_refusal}
 use Rattle.store_machine.proofs.TwinSteps.{Beside, WentOn, Writes, beside_here, beside_on, commit_lacks, due_opens, keeps_beside, lacks_of, puts_beside, turn_lacks, turns_on, writes_on}
 use Rattle.store_machine.proofs.Writers.{IsNoOpening, IsOther, KeepsWriters, apart_writers, does_of, no_opening, other_keeps, puts, refused_keeps, same_or_not, was_set, within, writers_here, writers_on}
+use Rattle.store_machine.proofs.Ingesting.{run_parts}
 
 -- ---- replies
 
@@ -38,10 +39,6 @@ no_session n a = elim (cases_lt a n) [
 ]
 
 module _ {V R : Type 0} (v : Values V R) where
-  parts_of : (xs ys : List (Stepped V)) (m n : Machine V R) → Run v (xs ++ ys) m n → (k : Machine V R) × Run v xs m k × Run v ys k n
-  parts_of [] ys m n run = (m, refl, run)
-  parts_of (x ∷ xs) ys m n (next, (legal, run)) = let rest = parts_of xs ys next n run in (rest.0, (next, (legal, rest.1)), rest.2)
-
   one_of : (x : Stepped V) (m n : Machine V R) → Run v (x ∷ []) m n → Legal v x m n
   one_of x m n (mid, (legal, is)) = subst (Legal v x m) (sym is) legal
 
@@ -165,7 +162,7 @@ module _ {V R : Type 0} (v : Values V R) where
           refused = (refusal, refused);
         }
     stops made t turns (refusal, refused, inr (step, due, (told, is, by))) =
-        let parts = parts_of made (step_of v a step told ∷ []) d.machine e.machine (run_as (made ++ step_of v a step told ∷ []) is) in
+        let parts = run_parts v made (step_of v a step told ∷ []) d.machine e.machine (run_as (made ++ step_of v a step told ∷ []) is) in
         by_turn t parts.0 step refusal (turns_made made t parts.0 turns parts.1) due told refused by (one_of (step_of v a step told) parts.0 e.machine parts.2)
 
     -- where a line was refused, the session is this
@@ -284,7 +281,7 @@ module _ {V R : Type 0} (v : Values V R) where
           ⊎ TurnsStop v a s reply ss t) → Kept d e reply
       commit_line t sessions (inl (made, turns, nothing, (told, is, by))) =
           let last = step_of v a (asked.Commit name (v.of t.given)) told in
-          let parts = parts_of made (last ∷ []) d.machine e.machine (run_as (made ++ last ∷ []) is) in
+          let parts = run_parts v made (last ∷ []) d.machine e.machine (run_as (made ++ last ∷ []) is) in
           commit_told t parts.0 (turns_made made t parts.0 turns parts.1) nothing told by (one_of last parts.0 e.machine parts.2) sessions
       commit_line t sessions (inr (made, turns, stop)) =
           kept_stopped t (unless_refused reply None (Some t)) (stops made t turns stop) (λ other same. ap (λ (r : ReplyValue). unless_refused r None (Some t)) same) sessions
@@ -374,7 +371,7 @@ module _ {V R : Type 0} (v : Values V R) where
       sweep_line : (made : List (Stepped V)) (a : ℕ) → AreDid v made → Ends v a made asked.GcStep reply ss → e.sessions ≡ d.sessions → Kept d e reply
       sweep_line made a did (told, is, by) sessions =
           let last = step_of v a asked.GcStep told in
-          let parts = parts_of made (last ∷ []) d.machine e.machine (ran_as (made ++ last ∷ []) is) in
+          let parts = run_parts v made (last ∷ []) d.machine e.machine (ran_as (made ++ last ∷ []) is) in
           let legal = one_of last parts.0 e.machine parts.2 in
           record {
             holds = stay_holds d e holds sessions

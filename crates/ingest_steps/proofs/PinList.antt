@@ -75,10 +75,6 @@ pub length-push : {X : Type 0} (xs : List X) (x : X) → length (xs ++ x ∷ [])
 length-push [] x = refl
 length-push (y ∷ ys) x = omega (arith, length-push ys x)
 
-pub all_push : {X : Type 0} (P : X → Type 0) (xs : List X) (x : X) → AllByRecursion P xs → P x → AllByRecursion P (xs ++ x ∷ [])
-all_push P [] x all has = (has, tt)
-all_push P (y ∷ ys) x all has = (all.0, all_push P ys x all.1 has)
-
 pub had_push : (kind : Kind) (ss : List Segment) (pins : PinMap) (hads : List (Option Pin)) (h : Option Pin) (i : ℕ) → length hads ≡ i → WereHad kind ss pins hads
     → h ≡ finite.get (with_pins kind (take i ss) pins) (segment_key kind (segment_at ss i)) → WereHad kind ss pins (hads ++ h ∷ [])
 had_push kind ss pins hads h i many were is j below = elim (pushed None hads h j (omega (arith, below, length-push hads h))) [

@@ -1,6 +1,6 @@
 -- Pins are right and closed still where one more is added, of a segment that is held.
 use Rattle.ingest_steps.proofs.Prelude.{◌≡◌, ℕ, ◌≤◌, Bool, true, false, cond, List, [], ◌∷◌, length, Option, Some, None, refl, sym, ◌∙◌, ap, subst, arith, nat_le, slice_cmp, nat_list_cmp_total, AllByRecursion, nat_cmp, eq_by_cmp, eqb-true, sum_by-cons, bytes_eq-Decides, sha256, Kind, Leaf, Tree, Segment, KindSegment, HeaderValue, contents_in, Pin, PinMap, IsPin, has_pin, KeyPin, IsStepSegment, IsOfKind, pin_by, pin_of, children_of, first_not_in, Copy, HasNewest, bytes_at, some_same, tied, ArePinsOf, key_of_seg}
-use Rattle.std.proofs.Common.{◌==◌, ◌&&◌}
+use Rattle.std.proofs.Common.{◌==◌}
 use Rattle.std.specs.Prelude.{if◌then◌else◌}
 use Rattle.std.specs.FinMap as finite
 use Rattle.std.proofs.lemmas.Bool.{le-leb}
@@ -10,16 +10,13 @@ use Rattle.merkle_file.specs.Node.{IsChild, total}
 use Rattle.actor_parts.specs.PinMap.{is_pin}
 use Rattle.store_model.proofs.HeldSlots.{same_kind}
 use Rattle.store_state.specs.Invariant.{HoldsPin}
+use Rattle.base_model.proofs.Checks.{both_true}
 
 -- ---- what may be said of a segment
 
 some_total : (level : ℕ) (cs : List Child) → 1 ≤ length cs → AllByRecursion (IsChild level) cs → 1 ≤ total cs
 some_total level [] some each = absurd (omega (arith, some))
 some_total level (c ∷ cs) some each = omega (arith, each.0.some, sum_by-cons (λ (d : Child). d.length) c cs)
-
-both : (a b : Bool) → a ≡ true → b ≡ true → a && b ≡ true
-both true b first second = second
-both false b first second = absurd cc
 
 above_data : (b : Bool) (level count : ℕ) → (level == 0) ≡ b → 1 ≤ level → 1 ≤ count → (if b then nat_le count MOST_SEGMENT else nat_le 1 count) ≡ true
 above_data true level count is above some = absurd (omega (arith, above, eqb-true level 0 is))
@@ -28,7 +25,7 @@ above_data false level count is above some = le-leb 1 count some
 pub pin_right : (kind : Kind) (s : Segment) → IsOfKind kind s → 1 ≤ length s.bytes → length s.bytes ≤ MOST_SEGMENT → IsPin (pin_by kind s)
 pin_right Leaf s right some few = record {
   some = some;
-  length_is = both (nat_le (length s.bytes) MOST_FILE) (nat_le (length s.bytes) MOST_SEGMENT) (le-leb (length s.bytes) MOST_FILE (omega (arith, few)))
+  length_is = both_true (nat_le (length s.bytes) MOST_FILE) (nat_le (length s.bytes) MOST_SEGMENT) (le-leb (length s.bytes) MOST_FILE (omega (arith, few)))
       (le-leb (length s.bytes) MOST_SEGMENT few);
   level_is = le-leb 0 MOST_LEVEL (omega arith);
 }
@@ -38,7 +35,7 @@ pin_right Tree s right some few =
     let more : 1 ≤ count = some_total (contents_in s.bytes).level (contents_in s.bytes).children node.some node.each in
     record {
       some = more;
-      length_is = both (nat_le count MOST_FILE) (if s.level == 0 then nat_le count MOST_SEGMENT else nat_le 1 count) (le-leb count MOST_FILE node.total)
+      length_is = both_true (nat_le count MOST_FILE) (if s.level == 0 then nat_le count MOST_SEGMENT else nat_le 1 count) (le-leb count MOST_FILE node.total)
           (above_data (s.level == 0) s.level count refl (omega (arith, right.level, node.above)) more);
       level_is = le-leb s.level MOST_LEVEL (omega (arith, right.level, node.level));
     }

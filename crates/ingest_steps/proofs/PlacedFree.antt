@@ -51,7 +51,7 @@ free_first id (c ∷ cs) store room =
     subst (λ (ps : List Placed). AreFirstFree ps store) (sym (in_free_step id c cs store (omega (arith, room))))
     (refl, free_first (suc id) cs (with_sealed id c.kind c.segments store) (fewer_left id c (length cs) store room))
 
-right_after : (id : ℕ) (c : Contents) (cs : List Contents) → AreRight id (c ∷ cs) → AreRight (suc id) cs
+pub right_after : (id : ℕ) (c : Contents) (cs : List Contents) → AreRight id (c ∷ cs) → AreRight (suc id) cs
 right_after id c cs right i x here = subst (λ (n : ℕ). IsHeader (header_of n x.kind x.segments)) (omega arith) (right (suc i) x here)
 
 pub right_first : (id : ℕ) (c : Contents) (cs : List Contents) → AreRight id (c ∷ cs) → IsHeader (header_of id c.kind c.segments)

@@ -8,6 +8,7 @@ use Rattle.store_model.specs.Together.{Placed, with_all}
 use Rattle.store_model.proofs.Indexing.{has_segments, still_has}
 use Rattle.store_state.proofs.Parts.{part_kept}
 use Rattle.store_state.specs.IndexingAll.{with_contents}
+use Rattle.store_state.proofs.Indexed.{same_map}
 use Rattle.ingest_steps.specs.Offering.{HasSlots, MayKeepAll, first_unpinned_in, offer_in, with_pins_of}
 use Rattle.ingest_steps.specs.OfferStep.{KeepsOffered}
 use Rattle.ingest_steps.specs.Pinning.{or_else}
@@ -108,9 +109,6 @@ of_placed Q slots id [] many all = tt
 of_placed Q [] id (c ∷ cs) many all = absurd (omega (arith, many))
 of_placed Q (s ∷ ss) id (c ∷ cs) many all = (all.0, of_placed Q ss (suc id) cs (omega (arith, many)) all.1)
 
-one_map : (a b : PlaceMap) → Some a ≡ Some b → a ≡ b
-one_map a b is = cc
-
 -- ---- the actor's part
 
 module _ (old new : DiskView) (known known_new : Option PlaceMap) (t now_tables : Tables) (parts parts_new : List Part) (actor : ℕ) (filled : List Contents) (slots : List ℕ)
@@ -129,7 +127,7 @@ module _ (old new : DiskView) (known known_new : Option PlaceMap) (t now_tables 
       let pins : PinMap = may.pins in
       let more : Part = Writing (with_pins_of first pins) in
       let map_is : with_contents slots first map ≡ more_map =
-      one_map _ more_map (sym (places_are slots id first map) ∙ sym (places given map content known_is) ∙ more_is) in
+      same_map _ more_map (sym (places_are slots id first map) ∙ sym (places given map content known_is) ∙ more_is) in
       let Q : List ℕ → Type 0 = HasKey more_map in
       let count : (key : List ℕ) → HasKey map key → Q key = λ key had. subst (λ (m : PlaceMap). HasKey m key) map_is (all_have slots first map key had) in
       let counts : AllByRecursion (λ c. AllByRecursion (λ s. Q (segment_key c.kind s)) c.segments) first =

@@ -19,6 +19,7 @@ use Rattle.store_model.proofs.IndexSize.{partial_sealed}
 use Rattle.store_model.proofs.Valid.{free_sealed, valid_sealed}
 use Rattle.store_state.specs.Tables.{RepresentsSlots, count_of}
 use Rattle.store_state.proofs.Changed.{keeps}
+use Rattle.store_state.proofs.Indexed.{length-entries_from}
 use Rattle.ingest_steps.proofs.SlotFrame.{first_changed, first_on}
 
 -- ---- how much a container has
@@ -32,15 +33,11 @@ last_entry d offset (s ∷ t ∷ ss) some =
     ap (λ (n : ℕ). (get_or (entries_from offset (s ∷ t ∷ ss)) n d).offset + (get_or (entries_from offset (s ∷ t ∷ ss)) n d).length) one_on
     ∙ last_entry d (offset + length s.bytes) (t ∷ ss) (omega arith) ∙ omega (arith, sum_by-cons (λ (x : Segment). length x.bytes) s (t ∷ ss))
 
-pub length-of_entries : (offset : ℕ) (ss : List Segment) → length (entries_from offset ss) ≡ length ss
-length-of_entries offset [] = refl
-length-of_entries offset (s ∷ ss) = ap suc (length-of_entries (offset + length s.bytes) ss)
-
 pub last_of : (d : Entry) (es : List Entry) (ss : List Segment) → es ≡ entries_from 0 ss → 1 ≤ length ss
     → (get_or es (length es - 1) d).offset + (get_or es (length es - 1) d).length ≡ bytes_in ss
 last_of d es ss is some =
     ap (λ (l : List Entry). (get_or l (length l - 1) d).offset + (get_or l (length l - 1) d).length) is
-    ∙ ap (λ (n : ℕ). (get_or (entries_from 0 ss) (n - 1) d).offset + (get_or (entries_from 0 ss) (n - 1) d).length) (length-of_entries 0 ss)
+    ∙ ap (λ (n : ℕ). (get_or (entries_from 0 ss) (n - 1) d).offset + (get_or (entries_from 0 ss) (n - 1) d).length) (length-entries_from 0 ss)
     ∙ last_entry d 0 ss some
     ∙ omega arith
 

@@ -175,7 +175,6 @@ module _ (t new : Tables) (offered : ℕ) (slots : List ℕ) (id : ℕ) (filled 
         → Represents (with_all (in_free id filled store) store) map new
     represents map newest_is =
         let ps = in_free id filled store in
-        let H : List (Option HeaderValue) = (with_all ps store).held in
         subst (λ (s : Store). Represents s map new) (sym (all_but_held ps store)) (record {
           slots_are = ap (λ (x : Tables). x.slots) others ∙ is.slots_are;
           names_are = subst (λ (x : Tables). IsTold store.other_open store.selector store.records x.journal x.names x.journal.last) (sym others) is.names_are;

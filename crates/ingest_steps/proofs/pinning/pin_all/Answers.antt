@@ -1,7 +1,8 @@
 use Rattle.ingest_steps.proofs.Prelude.{◌≡◌, ◌+◌, ◌<◌, ℕ, List, Option, length, take, ap, sym, subst, ◌∙◌, arith, IfSome, AllByRecursion, segment_at, segment_key, Pin, PinMap, IsPin, pin_by, WereHad, with_pins}
 use Rattle.std.specs.FinMap as finite
-use Rattle.ingest_steps.proofs.PinList.{pins_next, had_push, all_push, length-push}
+use Rattle.ingest_steps.proofs.PinList.{pins_next, had_push, length-push}
 use Rattle.ingest_steps.proofs.pinning.pin_all.Goals as goal
+use Rattle.merkle_file.proofs.Placing.{all_push}
 
 pub unpin-requires-clause-kept : goal.unpin-requires-clause-kept
 unpin-requires-clause-kept c =

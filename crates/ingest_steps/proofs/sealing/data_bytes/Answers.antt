@@ -1,12 +1,13 @@
 use Rattle.ingest_steps.proofs.Prelude.{[], length, refl, ap, arith, Entry, header_of}
-use Rattle.ingest_steps.proofs.SealedTables.{last_of, length-of_entries, few_bytes}
+use Rattle.ingest_steps.proofs.SealedTables.{last_of, few_bytes}
 use Rattle.ingest_steps.proofs.sealing.data_bytes.Goals as goal
+use Rattle.store_state.proofs.Indexed.{length-entries_from}
 
 pub overflow_sub-last : goal.overflow_sub-last
-overflow_sub-last c = omega (arith, ap length c.entries-entries.ensures.entries, length-of_entries 0 c.args.filled.now.segments, c.requires)
+overflow_sub-last c = omega (arith, ap length c.entries-entries.ensures.entries, length-entries_from 0 c.args.filled.now.segments, c.requires)
 
 pub bounds-entries-entries : goal.bounds-entries-entries
-bounds-entries-entries c = omega (arith, ap length c.entries-entries.ensures.entries, length-of_entries 0 c.args.filled.now.segments, c.requires)
+bounds-entries-entries c = omega (arith, ap length c.entries-entries.ensures.entries, length-entries_from 0 c.args.filled.now.segments, c.requires)
 
 pub overflow_add-result : goal.overflow_add-result
 overflow_add-result c =

@@ -73,10 +73,6 @@ returns-in_err-put_each-clause-disk g c =
     let view = g.D.Disk.view in
     let old = view c.args.disk.now in
     let t = c.args.tables.now in
-    let slots = c.args.slots.now in
-    let filled = c.args.filled.now in
-    let known = g.X.Index.places c.args.index.now old.content in
-    let ps = placed slots (t.held.last_id + 1) filled in
     let new = view c.put_each.new.disk in
     let e = c.in_err-put_each.field-0.0 in
     passed (λ x. Steps t.slots x old new) blames c.from_residual-in_err-put_each.result e c.from_residual-in_err-put_each.ensures.1
@@ -101,11 +97,6 @@ seal_taken-requires-clause-state g c =
     let view = g.D.Disk.view in
     let old = view c.args.disk.now in
     let t = c.args.tables.now in
-    let slots = c.args.slots.now in
-    let filled = c.args.filled.now in
-    let known = g.X.Index.places c.args.index.now old.content in
-    let ps = placed slots (t.held.last_id + 1) filled in
-    let mid = view c.put_each.new.disk in
     let changes = c.in_ok-put_each.ensures.changes t.slots (slots_on_disk old.size None t c.requires.state) in
     (None, subst (λ (n : ℕ). Runs n None t) (sym changes.later.size_is) c.requires.state)
 
@@ -116,7 +107,6 @@ seal_taken-requires-clause-known g c =
     let t = c.args.tables.now in
     let slots = c.args.slots.now in
     let filled = c.args.filled.now in
-    let known = g.X.Index.places c.args.index.now old.content in
     let ps = placed slots (t.held.last_id + 1) filled in (
       c.in_ok-sizes.ensures.right c.next_id-id.result (λ i within.
           ids_right old.size None t c.requires.state c.requires.slots.0 slots c.requires.slots.1 c.next_id-id.result c.next_id-id.ensures.next i
@@ -129,10 +119,6 @@ returns-in_err-seal_taken-clause-disk g c =
     let view = g.D.Disk.view in
     let old = view c.args.disk.now in
     let t = c.args.tables.now in
-    let slots = c.args.slots.now in
-    let filled = c.args.filled.now in
-    let known = g.X.Index.places c.args.index.now old.content in
-    let ps = placed slots (t.held.last_id + 1) filled in
     let mid = view c.put_each.new.disk in
     let changes = c.in_ok-put_each.ensures.changes t.slots (slots_on_disk old.size None t c.requires.state) in
     let new = view c.seal_taken.new.disk in
@@ -163,11 +149,7 @@ pub returns-clause-ok : goal.returns-clause-ok
 returns-clause-ok g c =
     let view = g.D.Disk.view in
     let old = view c.args.disk.now in
-    let t = c.args.tables.now in
-    let slots = c.args.slots.now in
-    let filled = c.args.filled.now in
     let known = g.X.Index.places c.args.index.now old.content in
-    let ps = placed slots (t.held.last_id + 1) filled in
     let have = c.in_ok-seal_taken.ensures.ok old.size known in
     (have.last_is, have)
 
@@ -178,8 +160,6 @@ returns-clause-map g c =
     let t = c.args.tables.now in
     let slots = c.args.slots.now in
     let filled = c.args.filled.now in
-    let known = g.X.Index.places c.args.index.now old.content in
-    let ps = placed slots (t.held.last_id + 1) filled in
     let mid = view c.put_each.new.disk in
     let changes = c.in_ok-put_each.ensures.changes t.slots (slots_on_disk old.size None t c.requires.state) in
     let new = view c.seal_taken.new.disk in
@@ -200,10 +180,6 @@ returns-clause-disk g c =
     let view = g.D.Disk.view in
     let old = view c.args.disk.now in
     let t = c.args.tables.now in
-    let slots = c.args.slots.now in
-    let filled = c.args.filled.now in
-    let known = g.X.Index.places c.args.index.now old.content in
-    let ps = placed slots (t.held.last_id + 1) filled in
     let mid = view c.put_each.new.disk in
     let changes = c.in_ok-put_each.ensures.changes t.slots (slots_on_disk old.size None t c.requires.state) in
     steps_on t.slots old mid (view c.seal_taken.new.disk) changes c.in_ok-seal_taken.ensures.disk c.in_ok-seal_taken.ensures.durable

@@ -4,9 +4,10 @@ use Rattle.std.proofs.lemmas.Option.{slice_get-get_or, slice_get_read}
 use Rattle.container_log.specs.Many.{placed}
 use Rattle.store_model.specs.Together.{with_all}
 use Rattle.store_state.specs.Tables.{RepresentsSlots}
+use Rattle.store_state.proofs.Indexed.{length-entries_from}
 use Rattle.ingest_steps.proofs.PlacedFree.{slot_below}
 use Rattle.ingest_steps.proofs.SealedAll.{id_below}
-use Rattle.ingest_steps.proofs.SealedTables.{length-of_entries, same_count}
+use Rattle.ingest_steps.proofs.SealedTables.{same_count}
 use Rattle.ingest_steps.proofs.TakenAll.{have_sealed, length-with_all, one_more, table_many}
 use Rattle.ingest_steps.proofs.sealing_all.take_each.Goals as goal
 
@@ -18,7 +19,7 @@ overflow_cast-count c =
     let i : ℕ = c.loop-i.i in
     let x = c.index-filled-i-in-loop-i.result in
     let here = slice_get_read c.args.filled.now _ i x refl (omega (arith, c.loop-i-test.true, c.requires.many.0)) c.index-filled-i-in-loop-i.is in
-    omega (arith, entries_within (header_of (c.args.id + i) x.kind x.segments) (c.requires.right i x here), length-of_entries 0 x.segments, c.len.ensures)
+    omega (arith, entries_within (header_of (c.args.id + i) x.kind x.segments) (c.requires.right i x here), length-entries_from 0 x.segments, c.len.ensures)
 
 pub overflow_add-id : goal.overflow_add-id
 overflow_add-id c =
@@ -65,7 +66,7 @@ loop-i-preserved c =
           (sym (one_more slots c.args.id filled store i (i + 1) slot x (slice_get-get_or slots i 0 within) here (omega arith)))
           (c.take_container.ensures.holds (with_all (placed (take i slots) c.args.id filled) store).held h refl
           (same_count h c.kind.result c.len.result (get_or c.args.sizes.now i 0) _ (sym c.kind.ensures)
-          (length-of_entries 0 x.segments ∙ ap (λ (z : Contents). length z.segments) (sym same) ∙ sym c.len.ensures) (sym (c.requires.sizes i x here))
+          (length-entries_from 0 x.segments ∙ ap (λ (z : Contents). length z.segments) (sym same) ∙ sym c.len.ensures) (sym (c.requires.sizes i x here))
           (sym (c.requires.digests i x within here))) (inv.2 store is)),
     )
 

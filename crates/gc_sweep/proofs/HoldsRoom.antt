@@ -27,9 +27,7 @@ module _ (t : SlotTable) (index : PlaceMap) (held : List (Option HeaderValue)) (
 
   most_one : (n : Next) → taken_from n ≤ 1
   most_one (CopyNext source entry) = omega arith
-  most_one (Flush source entry) = omega arith
-  most_one (Release source entry) = omega arith
-  most_one End = omega arith
+  most_one other = omega arith
 
   pub one_free : 1 ≤ free_slots held
   one_free = omega (arith, under.room, free_is, most_one s.next)

@@ -6,7 +6,6 @@ use Rattle.std.specs.List.{Contains}
 use Rattle.actor_parts.specs.declared.part.Part.{Part}
 use Rattle.dd_disk.specs.Moves.{StandsFor}
 use Rattle.dd_disk.specs.View.{IsLater}
-use Rattle.gc_enumerate.specs.Live.{IsLiveAt}
 use Rattle.ingest_steps.specs.Sealing.{FitBeside, SealsIndexed}
 use Rattle.store_model.specs.Collisions.{ByteSet}
 use Rattle.store_model.specs.Image.{IsValidFor}
@@ -17,11 +16,9 @@ use Rattle.store_model.proofs.Valid.{valid_sealed}
 use Rattle.store_state.specs.Invariant.{CoreInvariant, HoldsPart}
 use Rattle.store_state.proofs.Parts.{parts_kept}
 use Rattle.gc_sweep.proofs.Released.{none_held}
+use Rattle.gc_sweep.proofs.InSlots.{live_anywhere}
 
 -- a key that is marked is so at each place
-marked : (live : LiveKeys) (key : List ℕ) (at other : Place) → IsLiveAt live key at → IsLiveAt live key other
-unfolding IsLiveAt
-marked live key at other is = is
 
 -- each key that was copied is live
 pub live_keys : (index : PlaceMap) (live : LiveKeys) (held : List (Option HeaderValue)) (image : List ℕ) (kind : Kind) (xs : List Segment)
@@ -123,8 +120,8 @@ module _ (index : PlaceMap) (store : Store) (files : Files) (parts : List Part) 
         reserve_holds = reserve;
         has_free = free;
       };
-      stays = λ key is. let on = keys_on key (has_live key is) in (on.0, (on.1, marked live key is.0 on.0 is.1.1));
-      was = λ key is. let before = in_index key (is.0, is.1.0) in (before.0, (before.1, marked live key is.0 before.0 is.1.1));
+      stays = λ key is. let on = keys_on key (has_live key is) in (on.0, (on.1, live_anywhere live key is.0 on.0 is.1.1));
+      was = λ key is. let before = in_index key (is.0, is.1.0) in (before.0, (before.1, live_anywhere live key is.0 before.0 is.1.1));
       copies = λ key level bytes is has. copies_on key level bytes (has_live key is) has;
     }
 

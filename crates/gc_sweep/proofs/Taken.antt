@@ -1,5 +1,5 @@
 -- A container more in a closed slot: what a sweep needs of the table stays.
-use Rattle.gc_sweep.proofs.Prelude.{◌≡◌, ◌≢◌, inl, inr, ℕ, zero, suc, ◌<◌, ◌≤◌, true, List, [], ◌∷◌, ◌++◌, length, get_or, set, count_by, Option, Some, None, option_map, refl, ap, sym, subst, ◌∙◌, arith, ◌==◌, AllByRecursion, get_or_default_zero, get_or-set_other, length-set, Kind, HeaderValue, IsHeader, RESERVE, AreHeaders, first_free, free_slots, ids_of, with_slot, zeros_free, SlotCount, SlotTable, IsFirstFree, RepresentsSlots, count_of, Next, Flush, Release, End, Sweep, kind_in, AreLeft, HasNext, IsSweeping, IsTaken, free_in, is_old, sources_before}
+use Rattle.gc_sweep.proofs.Prelude.{◌≡◌, ◌≢◌, inl, inr, ℕ, zero, suc, ◌<◌, ◌≤◌, true, List, [], ◌∷◌, ◌++◌, length, get_or, set, count_by, Option, Some, None, option_map, refl, ap, sym, subst, ◌∙◌, arith, ◌==◌, AllByRecursion, get_or_default_zero, get_or-set_other, length-set, Kind, HeaderValue, IsHeader, RESERVE, AreHeaders, first_free, free_slots, ids_of, with_slot, zeros_free, SlotCount, SlotTable, IsFirstFree, RepresentsSlots, count_of, Next, Sweep, kind_in, AreLeft, HasNext, IsSweeping, IsTaken, free_in, is_old, sources_before}
 use Rattle.std.specs.Prelude.{slice_get, Contains}
 use Rattle.store_model.proofs.Filled.{free_less as filled_less, headers_with}
 use Rattle.store_state.proofs.Taken.{counts_with, ids_with}
@@ -80,9 +80,7 @@ module _ (t now : SlotTable) (snapshot slot id : ℕ) (count : SlotCount) (close
   next_same : (s : Sweep) (n : Next) → ((i : ℕ) → i < length s.sources.items → is_old snapshot (get_or s.sources.items i 0) ≡ true) → HasNext t s n → HasNext now s n
   next_same s (Copy source entry) old (below, none, first, inl empty) = (below, none, first, inl empty)
   next_same s (Copy source entry) old (below, none, first, inr kind) = (below, none, first, inr (of_kind_same s.sources.items old source s.buffer.kind below kind))
-  next_same s (Flush source entry) old was = was
-  next_same s (Release source entry) old was = was
-  next_same s End old was = was
+  next_same s other old was = was
 
   -- a container of another who wrote it leaves a sweep under way
   pub sealed_on : (s : Sweep) → suc (free_in now) ≡ free_in t → RESERVE < free_in t → IsSweeping t snapshot s → IsSweeping now snapshot s

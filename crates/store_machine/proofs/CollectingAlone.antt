@@ -24,6 +24,7 @@ use Rattle.store_machine.proofs.Reached.{needs_just}
 use Rattle.store_machine.proofs.Sources.{IsSourced, SourcedAt, Under, all_went, counts_of, none_given, room_first, room_in, sourced_first}
 use Rattle.store_machine.proofs.SweptAlone.{C, ByStage, has_chosen, opened_ids}
 use Rattle.store_machine.proofs.Swept.{none_filled, none_in}
+use Rattle.store_machine.proofs.Parts.{begun_by}
 
 -- steps that went on are between the beginning of a collection and its end
 did_between : (made : ListOf Step) → AreDid of_files made → AreBetween made
@@ -39,18 +40,6 @@ did_between (x ∷ xs) (asked_is, (phase, answer_is), more) = (
 no_more : (xs : ListOf (ListOf ℕ)) → xs ++ [] ≡ xs
 no_more [] = refl
 no_more (x ∷ xs) = ap (λ (l : ListOf (ListOf ℕ)). x ∷ l) (no_more xs)
-
--- one that begins
-abbrev new_collection : (percent snapshot : ℕ) → FileMachine → C
-new_collection percent snapshot m = record {
-  percent = percent;
-  snapshot = snapshot;
-  stage = marking (marks_of m.store.held);
-  recorded = [];
-  changes = [];
-  values = finite.values m.now.names ++ values_read m.parts;
-  keys = keys_kept m.parts;
-}
 
 -- nothing is changed before the first change
 begins_at : (opened : Store) (c : C) (left : ℕ) → c.changes ≡ [] → ByStage opened c (marking left)
@@ -190,7 +179,7 @@ module _ (percent : ℕ) (start : FileMachine) (opened : Store) where
               under = record {
                 same = ap (λ (x : FileMachine). x.now) others ∙ at.same;
                 runs = runs;
-                c = new_collection percent snapshot d.machine;
+                c = begun_by percent snapshot d.machine;
                 ran = ap (λ (x : FileMachine). x.collection) others;
                 tied = record {
                   sweeps = none_swept mid.machine store;
@@ -199,14 +188,14 @@ module _ (percent : ℕ) (start : FileMachine) (opened : Store) where
                   values_are = values_so;
                   keys_are = ap keys_kept fresh.idle;
                   records = tt;
-                  stage = begins_at opened (new_collection percent snapshot d.machine) (marks_of d.machine.store.held) refl;
+                  stage = begins_at opened (begun_by percent snapshot d.machine) (marks_of d.machine.store.held) refl;
                   filled = λ key has. absurd (none_in key (subst (λ (ks : ListOf (ListOf ℕ)). Contains ks key) (none_filled (marks_of d.machine.store.held)) has));
                 };
                 sourced = record {
                   ids = tt;
                   last_is = counts.last_is;
                   earlier = tt;
-                  at = sourced_first opened (new_collection percent snapshot d.machine) (marks_of d.machine.store.held);
+                  at = sourced_first opened (begun_by percent snapshot d.machine) (marks_of d.machine.store.held);
                   room = room_first opened mid.machine.store (marks_of d.machine.store.held) store;
                 };
               };

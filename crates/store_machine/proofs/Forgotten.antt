@@ -1,5 +1,5 @@
 -- A step of the machine of files is one of the machine of roots, once all but the roots is forgotten.
-use Rattle.store_machine.proofs.Prelude.{◌≡◌, inl, inr, ◌≤◌, ◌<◌, ◌+◌, ◌-◌, ◌^◌, ℕ, suc, [], ◌∷◌, ◌++◌, length, map, Contains, Option, Some, None, option_map, Result, Ok, Err, refl, sym, ◌∙◌, ap, subst, PinMap, pin_of, KindSegment, segment_key, Root, Put, Gone, half_cells, LAST_ID, MOST_NAMES, RESERVE, Top, start_of, PartKind, Phase, Refusal, Store, free_slots, last_id, with_freed, CanRise, with_change, with_sealed, Asked, Begins, GoesOn, IsCollecting, Makes, MayBreak, last_by, marking, marks_of, phase_in, swept_by, Done, Forgets, Rests, SameNow, SamePart, SameState, asked_of, forget_collection, Answers, ByState, Claims, Deletes, Does, GivesBytes, GivesUp, HasName, HasNumbers, HasRoom, HasSlot, IsAtEnd, IsAtRightPart, IsUnkept, broken_by, Keeps, LacksNumbers, MayCommit, OpensValue, Refuses, RefusesClaim, RefusesCommit, RefusesDelete, RefusesGcStep, RefusesOn, RefusesRead, RefusesSeal, RefusesUnique, Seals, LegalBy, counted, with_name, without_name, Collection, Found, Idle, Writing, Reading, RunState, Running, Stopped, keeping, kind_of, one_more, part_in, put_at, keys_kept, values_read, MayBeFound, MayRefuseOpening, Reopens, freeing, IsStuck, of_files, of_roots, top_of}
+use Rattle.store_machine.proofs.Prelude.{◌≡◌, inl, inr, ◌≤◌, ◌<◌, ◌+◌, ◌-◌, ◌^◌, ℕ, suc, [], ◌∷◌, ◌++◌, length, map, Contains, Option, Some, None, option_map, Result, Ok, Err, refl, sym, ◌∙◌, ap, subst, PinMap, pin_of, KindSegment, segment_key, Root, Put, Gone, half_cells, LAST_ID, MOST_NAMES, RESERVE, Top, start_of, PartKind, Phase, Refusal, Store, free_slots, last_id, with_freed, CanRise, with_change, with_sealed, Asked, Begins, GoesOn, IsCollecting, Makes, MayBreak, marking, marks_of, phase_in, Done, Forgets, Rests, SameNow, SamePart, SameState, asked_of, forget_collection, Answers, ByState, Claims, Deletes, Does, GivesBytes, GivesUp, HasName, HasNumbers, HasRoom, HasSlot, IsAtEnd, IsAtRightPart, IsUnkept, broken_by, Keeps, LacksNumbers, MayCommit, OpensValue, Refuses, RefusesClaim, RefusesCommit, RefusesDelete, RefusesGcStep, RefusesOn, RefusesRead, RefusesSeal, RefusesUnique, Seals, LegalBy, counted, with_name, without_name, Collection, Found, Idle, Writing, Reading, RunState, Running, Stopped, keeping, kind_of, one_more, part_in, put_at, values_read, MayBeFound, MayRefuseOpening, Reopens, freeing, IsStuck, of_files, of_roots, top_of}
 use Rattle.std.proofs.Common.{List, slice_get, take}
 use Rattle.std.specs.FinMap as finite
 use Rattle.container_meta.specs.Segments.{Contents}
@@ -18,7 +18,7 @@ use Rattle.store_machine.specs.Offers.{sealed_in, stores_with_some}
 use Rattle.store_machine.specs.Opening.{Opens}
 use Rattle.store_machine.proofs.AddedSame.{all_added, sealed_same, stores_same}
 use Rattle.store_machine.proofs.ForgottenCollection.{goes_same}
-use Rattle.store_machine.proofs.Parts.{F, G, collecting, fresh, fresh_same, idle_same, kept_map, keys_same, kind_same, map_two, part_at, put, read_same, reading_same, with_collection, with_names, with_state, writing_same}
+use Rattle.store_machine.proofs.Parts.{F, G, begun_by, collecting, fresh, fresh_same, gone_by, idle_same, kept_map, keys_same, kind_same, map_two, part_at, put, read_same, reading_same, with_collection, with_names, with_state, with_step, writing_same}
 use Rattle.store_machine.proofs.SameNames.{gone_same, knows_same, len_same, listing_same, none_same, put_same, some_same, values_same}
 use Rattle.store_machine.proofs.Walks.{ends_both, more_both, next_leaf, start_both}
 
@@ -183,30 +183,8 @@ module _ (m : F) (r : G) (same : Forgets m r) where
 
   -- ---- a collection
 
-  abbrev pub started : (percent snapshot : ℕ) → Collection (List ℕ)
-  started percent snapshot = record {
-    percent = percent;
-    snapshot = snapshot;
-    stage = marking (marks_of m.store.held);
-    recorded = [];
-    changes = [];
-    values = finite.values m.now.names ++ values_read m.parts;
-    keys = keys_kept m.parts;
-  }
-
-  abbrev pub root_started : (percent snapshot : ℕ) → Collection Root
-  root_started percent snapshot = record {
-    percent = percent;
-    snapshot = snapshot;
-    stage = marking (marks_of r.store.held);
-    recorded = [];
-    changes = [];
-    values = finite.values r.now.names ++ values_read r.parts;
-    keys = keys_kept r.parts;
-  }
-
   started_same : (percent snapshot : ℕ) → finite.values r.now.names ++ values_read r.parts ≡ map root_of (finite.values m.now.names ++ values_read m.parts)
-      → root_started percent snapshot ≡ forget_collection (started percent snapshot)
+      → begun_by percent snapshot r ≡ forget_collection (begun_by percent snapshot m)
   started_same percent snapshot values_are = λ i. record {
     percent = percent;
     snapshot = snapshot;
@@ -217,7 +195,7 @@ module _ (m : F) (r : G) (same : Forgets m r) where
     keys = keys_same m.parts r.parts same.parts i;
   }
 
-  pub begun_same : (percent snapshot : ℕ) → root_started percent snapshot ≡ forget_collection (started percent snapshot)
+  pub begun_same : (percent snapshot : ℕ) → begun_by percent snapshot r ≡ forget_collection (begun_by percent snapshot m)
   begun_same percent snapshot = started_same percent snapshot
       (ap (λ (vs : List Root). vs ++ values_read r.parts) (values_same m.now r.now same.now)
       ∙ ap (λ (vs : List Root). map root_of (finite.values m.now.names) ++ vs) (read_same m.parts r.parts same.parts)
@@ -225,29 +203,15 @@ module _ (m : F) (r : G) (same : Forgets m r) where
 
   begun : (percent snapshot : ℕ) (n : F) → Begins of_files percent snapshot m n → Left (λ t. Begins of_roots percent snapshot r t) n
   begun percent snapshot n (none, is, others) =
-      goes (λ t. Begins of_roots percent snapshot r t) n (record m { collection = Some (started percent snapshot) })
-      (record r { collection = Some (root_started percent snapshot) }) others
+      goes (λ t. Begins of_roots percent snapshot r t) n (record m { collection = Some (begun_by percent snapshot m) })
+      (record r { collection = Some (begun_by percent snapshot r) }) others
       (none_runs none, is ∙ ap suc (sym same.last_id), refl)
-      (with_collection m r same (Some (started percent snapshot)) (Some (root_started percent snapshot)) (ap Some (begun_same percent snapshot)))
+      (with_collection m r same (Some (begun_by percent snapshot m)) (Some (begun_by percent snapshot r)) (ap Some (begun_same percent snapshot)))
 
   gone_on : (phase : Phase) (n : F) → GoesOn of_files phase m n → Left (λ t. GoesOn of_roots phase r t) n
   gone_on phase n g =
       let w = g.went in
-      let t : G = record r {
-        store = n.store;
-        last_id = last_by w.changes r.last_id;
-        forgotten = w.forgotten;
-        swept = swept_by phase r.swept;
-        collection = Some (record (forget_collection g.c) { stage = w.stage; recorded = w.recorded; changes = g.c.changes ++ w.changes });
-      } in
-      goes (λ t. GoesOn of_roots phase r t) n
-      (record m {
-        store = n.store;
-        last_id = last_by w.changes m.last_id;
-        forgotten = w.forgotten;
-        swept = swept_by phase m.swept;
-        collection = Some (record g.c { stage = w.stage; recorded = w.recorded; changes = g.c.changes ++ w.changes });
-      }) t g.others
+      goes (λ t. GoesOn of_roots phase r t) n (gone_by phase g.c w n.store m) (gone_by phase (forget_collection g.c) w n.store r) g.others
       (record {
         c = forget_collection g.c;
         ran = one_runs g.c g.ran;
@@ -257,17 +221,7 @@ module _ (m : F) (r : G) (same : Forgets m r) where
         makes = on_store (λ (s : Store). Makes w.changes s n.store) g.makes;
         others = refl;
       })
-      (record {
-        now = same.now;
-        parts = same.parts;
-        store = refl;
-        last_id = ap (last_by w.changes) same.last_id;
-        forgotten = refl;
-        swept = ap (swept_by phase) same.swept;
-        collection = refl;
-        acknowledged = same.acknowledged;
-        state = same.state;
-      })
+      (with_step m r same phase g.c w n.store)
 
   ended : (freed copied : ℕ) (n : F) → Ends of_files freed copied m n → Left (λ t. Ends of_roots freed copied r t) n
   ended freed copied n e =

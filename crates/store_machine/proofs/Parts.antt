@@ -4,6 +4,7 @@ use Rattle.std.proofs.Common.{List}
 use Rattle.std.specs.FinMap as finite
 use Rattle.store_model.specs.Trees.{root_of}
 use Rattle.store_machine.specs.Forgetting.{Forgets, SameNow, SameParts, SameState}
+use Rattle.store_machine.specs.Collecting.{Went, last_by, marking, marks_of, swept_by}
 
 abbrev pub F : Type 0
 F = Machine (List ℕ) (List (List ℕ))
@@ -176,6 +177,30 @@ pub one_left : (o : Option (Collection (List ℕ))) (d : Collection Root) → op
 one_left None d is = absurd (let wrong : None ≡ Some d = is in cc)
 one_left (Some c) d is = (c, refl, let same : forget_collection c ≡ d = cc in sym same)
 
+-- ---- collections
+
+-- one that begins
+abbrev pub begun_by : {V R : Type 0} → (percent snapshot : ℕ) → Machine V R → Collection V
+begun_by percent snapshot m = record {
+  percent = percent;
+  snapshot = snapshot;
+  stage = marking (marks_of m.store.held);
+  recorded = [];
+  changes = [];
+  values = finite.values m.now.names ++ values_read m.parts;
+  keys = keys_kept m.parts;
+}
+
+-- what a machine is once its collection went on
+abbrev pub gone_by : {V R : Type 0} → Phase → Collection V → Went → Store → Machine V R → Machine V R
+gone_by phase c w store m = record m {
+  store = store;
+  last_id = last_by w.changes m.last_id;
+  forgotten = w.forgotten;
+  swept = swept_by phase m.swept;
+  collection = Some (record c { stage = w.stage; recorded = w.recorded; changes = c.changes ++ w.changes });
+}
+
 -- ---- of machines of which the rest was forgotten, one thing is another
 
 module _ (m : F) (r : G) (same : Forgets m r) where
@@ -206,6 +231,19 @@ module _ (m : F) (r : G) (same : Forgets m r) where
     forgotten = same.forgotten;
     swept = same.swept;
     collection = is;
+    acknowledged = same.acknowledged;
+    state = same.state;
+  }
+
+  pub with_step : (phase : Phase) (c : Collection (List ℕ)) (w : Went) (store : Store) → Forgets (gone_by phase c w store m) (gone_by phase (forget_collection c) w store r)
+  with_step phase c w store = record {
+    now = same.now;
+    parts = same.parts;
+    store = refl;
+    last_id = ap (last_by w.changes) same.last_id;
+    forgotten = refl;
+    swept = ap (swept_by phase) same.swept;
+    collection = refl;
     acknowledged = same.acknowledged;
     state = same.state;
   }

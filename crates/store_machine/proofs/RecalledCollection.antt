@@ -1,10 +1,10 @@
 -- A step of a collection of the machine of roots is one of that of files.
-use Rattle.store_machine.proofs.Prelude.{◌≡◌, inl, inr, ℕ, suc, [], ◌∷◌, ◌++◌, length, Some, None, refl, sym, ◌∙◌, ap, subst, Root, ids_of, Phase, Store, FlushContainer, StoreChange, Begins, Chooses, Copies, Flushes, GoesOn, GoesOver, JustGoes, Makes, Marks, Records, Releases, freed_in, ids_before, keys_written, last_by, next_of, no_sweep, phase_in, sources_in, swept_by, Forgets, forget_collection, Collection, Sweeping, forgotten_beside, AddsToPhase, AddsToStep, of_files, of_roots}
+use Rattle.store_machine.proofs.Prelude.{◌≡◌, inl, inr, ℕ, suc, [], ◌∷◌, ◌++◌, length, Some, None, refl, sym, ◌∙◌, ap, subst, Root, ids_of, Phase, Store, FlushContainer, StoreChange, Begins, Chooses, Copies, Flushes, GoesOn, GoesOver, JustGoes, Makes, Marks, Records, Releases, freed_in, ids_before, keys_written, next_of, no_sweep, phase_in, sources_in, Forgets, forget_collection, Collection, Sweeping, forgotten_beside, AddsToPhase, AddsToStep, of_files, of_roots}
 use Rattle.std.proofs.Common.{List, slice_get}
 use Rattle.refusals.specs.declared.refusal.Phase.TheVariants as phases
 use Rattle.store_machine.specs.Collecting.{Ends, Goes, Went}
-use Rattle.store_machine.proofs.Forgotten.{started, root_started, begun_same}
-use Rattle.store_machine.proofs.Parts.{F, G, with_collection}
+use Rattle.store_machine.proofs.Forgotten.{begun_same}
+use Rattle.store_machine.proofs.Parts.{F, G, begun_by, gone_by, with_collection, with_step}
 use Rattle.store_machine.proofs.Recalled.{Recalls, goes, none_runs, on_store, one_runs}
 use Rattle.store_machine.specs.Machine.{Sweep}
 
@@ -15,10 +15,10 @@ module _ (m : F) (r : G) (same : Forgets m r) where
 
   pub begun : (percent snapshot : ℕ) (t : G) → Begins of_roots percent snapshot r t → Left (λ n. Begins of_files percent snapshot m n) t
   begun percent snapshot t (none, is, others) =
-      goes m r same (λ n. Begins of_files percent snapshot m n) t (record r { collection = Some (root_started m r same percent snapshot) })
-      (record m { collection = Some (started m r same percent snapshot) }) others
+      goes m r same (λ n. Begins of_files percent snapshot m n) t (record r { collection = Some (begun_by percent snapshot r) })
+      (record m { collection = Some (begun_by percent snapshot m) }) others
       (none_runs m r same none, is ∙ ap suc same.last_id, refl)
-      (with_collection m r same (Some (started m r same percent snapshot)) (Some (root_started m r same percent snapshot))
+      (with_collection m r same (Some (begun_by percent snapshot m)) (Some (begun_by percent snapshot r))
       (ap Some (begun_same m r same percent snapshot)))
 
   -- ---- what each kind of step does, of a collection c, to what it leaves, w
@@ -129,29 +129,12 @@ module _ (m : F) (r : G) (same : Forgets m r) where
 
   -- ---- a step
 
-  -- what the machine of roots is after it
-  abbrev then_roots : Phase → Collection Root → Went → Store → G
-  then_roots phase d w store = record r {
-    store = store;
-    last_id = last_by w.changes r.last_id;
-    forgotten = w.forgotten;
-    swept = swept_by phase r.swept;
-    collection = Some (record d { stage = w.stage; recorded = w.recorded; changes = d.changes ++ w.changes });
-  }
-
   -- The collection is one of files, of which the rest was forgotten.
   of_one : (phase : Phase) (c : Collection (List ℕ)) (w : Went) (t : G) → m.collection ≡ Some c → phase ≡ phase_in r.store c
-      → Goes of_roots phase (forget_collection c) r w → Makes w.changes r.store t.store → t ≡ then_roots phase (forget_collection c) w t.store → AddsToStep phase m t
+      → Goes of_roots phase (forget_collection c) r w → Makes w.changes r.store t.store → t ≡ gone_by phase (forget_collection c) w t.store r → AddsToStep phase m t
       → Left (λ n. GoesOn of_files phase m n) t
   of_one phase c w t ran phase_is is makes others adds =
-      let n : F = record m {
-        store = t.store;
-        last_id = last_by w.changes m.last_id;
-        forgotten = w.forgotten;
-        swept = swept_by phase m.swept;
-        collection = Some (record c { stage = w.stage; recorded = w.recorded; changes = c.changes ++ w.changes });
-      } in
-      goes m r same (λ n. GoesOn of_files phase m n) t (then_roots phase (forget_collection c) w t.store) n others
+      goes m r same (λ n. GoesOn of_files phase m n) t (gone_by phase (forget_collection c) w t.store r) (gone_by phase c w t.store m) others
       (record {
         c = c;
         ran = ran;
@@ -161,24 +144,14 @@ module _ (m : F) (r : G) (same : Forgets m r) where
         makes = on_store m r same (λ (s : Store). Makes w.changes s t.store) makes;
         others = refl;
       })
-      (record {
-        now = same.now;
-        parts = same.parts;
-        store = refl;
-        last_id = ap (last_by w.changes) same.last_id;
-        forgotten = refl;
-        swept = ap (swept_by phase) same.swept;
-        collection = refl;
-        acknowledged = same.acknowledged;
-        state = same.state;
-      })
+      (with_step m r same phase c w t.store)
 
   pub gone_on : (phase : Phase) (t : G) → GoesOn of_roots phase r t → AddsToStep phase m t → Left (λ n. GoesOn of_files phase m n) t
   gone_on phase t g adds =
       let (c, ran, d_is) = one_runs m r same g.c g.ran in
       of_one phase c g.went t ran (subst (λ (d : Collection Root). phase ≡ phase_in r.store d) d_is g.phase_is)
       (subst (λ (d : Collection Root). Goes of_roots phase d r g.went) d_is g.goes) g.makes
-      (subst (λ (d : Collection Root). t ≡ then_roots phase d g.went t.store) d_is g.others) adds
+      (subst (λ (d : Collection Root). t ≡ gone_by phase d g.went t.store r) d_is g.others) adds
 
   pub ended : (freed copied : ℕ) (t : G) → Ends of_roots freed copied r t → Left (λ n. Ends of_files freed copied m n) t
   ended freed copied t e =

@@ -1,5 +1,5 @@
 -- A collection that runs, step by step: what held of it since it began holds after each step; and at its end it has done what it selected.
-use Rattle.store_machine.proofs.Prelude.{AllByRecursion, Bool, Chooses, Collection, ContainerLiveness, Contains, Contains-append_cases, Contains-append_left, Contains-push, Contains-push_cases, Copies, EachOnce, FlushContainer, Flushes, FreeContainer, GoesOver, HasIds, HeaderValue, IsWrittenBy, Kind, Machine, Makes, Marking, Marks, Phase, Records, Releases, Segment, Some, Store, StoreChange, Sweep, Sweeping, TakesKey, Values, [], ap, arith, cases_eq, false, first_free, free_slots, freed_in, get_or, header_of, inl, inr, keys_of, keys_written, last_by, length, marking, nat_lt, next_of, no_sweep, refl, segment_key, sources_in, subst, suc, sym, true, with_slot, zero, ℕ, ⊎_elim, ◌++◌, ◌+◌, ◌<◌, ◌↔◌, ◌∙◌, ◌∷◌, ◌≡◌, ◌≢◌, ◌≤◌, ◌⊎◌}
+use Rattle.store_machine.proofs.Prelude.{AllByRecursion, Bool, Chooses, Collection, ContainerLiveness, Contains, Contains-append_cases, Contains-append_left, Contains-push, Contains-push_cases, Copies, EachOnce, FlushContainer, Flushes, FreeContainer, GoesOver, HasIds, HeaderValue, IsWrittenBy, Kind, Machine, Makes, Marks, Phase, Records, Releases, Segment, Some, Store, StoreChange, Sweep, Sweeping, TakesKey, Values, [], ap, arith, cases_eq, false, first_free, free_slots, freed_in, get_or, header_of, inl, inr, keys_of, keys_written, last_by, length, marking, nat_lt, next_of, no_sweep, refl, segment_key, sources_in, subst, suc, sym, true, with_slot, zero, ℕ, ⊎_elim, ◌++◌, ◌+◌, ◌<◌, ◌↔◌, ◌∙◌, ◌∷◌, ◌≡◌, ◌≢◌, ◌≤◌, ◌⊎◌}
 use Rattle.std.proofs.Common.{List, ◌&&◌}
 use Rattle.std.proofs.lemmas.List.{append-nil}
 use Rattle.std.proofs.lemmas.Option.{same_Some}
@@ -69,12 +69,8 @@ module _ {V R : Type 0} where
       keys = λ key. flip (keys key) (since.keys key);
       once = since.once;
       filled_once = since.filled_once;
-      stage = at_stage c.stage since.stage;
+      stage = since.stage;
     }
-      where
-        at_stage : (st : Stage) → AtStage c since.gone st → AtStage (record c { keys = needed }) since.gone st
-        at_stage (Marking left) at = at
-        at_stage other at = at
 
   -- one more container was sealed
   pub sealed : (m k n : Machine V R) (c : Collection V) (S S' : HeaderValue → Type 0) (T T' : List ℕ → Type 0) → Since m k c S T
@@ -90,12 +86,9 @@ module _ {V R : Type 0} where
     keys = λ key. flip (keys key) (since.keys key);
     once = since.once;
     filled_once = since.filled_once;
-    stage = at_stage c.stage since.stage;
+    stage = since.stage;
   }
     where
-      at_stage : (st : Stage) → AtStage c since.gone st → AtStage (record c { keys = needed }) since.gone st
-      at_stage other at = at
-
       one_more : (g : HeaderValue) → (S' g ⊎ IsWrittenBy c.changes g) ↔ ((S g ⊎ IsWrittenBy c.changes g) ⊎ (g ≡ h))
       one_more g = (to, from)
         where

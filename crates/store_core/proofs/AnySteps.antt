@@ -9,36 +9,12 @@ use Rattle.store_core.proofs.CoreRuns.{running_step, was_running}
 -- each step is one of a collection, or it isn't
 pub gc_or_not : (step : StepValue) → (step ≡ asked.GcStep) ⊎ IsNoGcStep step
 gc_or_not asked.GcStep = inl refl
-gc_or_not asked.Begin = inr tt
-gc_or_not (asked.Claim seg) = inr tt
-gc_or_not (asked.Seal offered) = inr tt
-gc_or_not (asked.Commit name root) = inr tt
-gc_or_not asked.Abort = inr tt
-gc_or_not (asked.OpenRead name) = inr tt
-gc_or_not asked.ReadNext = inr tt
-gc_or_not asked.EndRead = inr tt
-gc_or_not (asked.Delete name) = inr tt
-gc_or_not asked.ListNames = inr tt
-gc_or_not (asked.GcStart percent) = inr tt
-gc_or_not asked.Stat = inr tt
-gc_or_not asked.Unique = inr tt
+gc_or_not other = inr tt
 
 -- the changes of a step that no collection makes
 changes_same : (step : StepValue) (answer : Result Answer Refusal) → IsNoGcStep step → AreChangesBy step answer (changes_by step answer)
 changes_same asked.GcStep answer other = absurd other
-changes_same asked.Begin answer other = refl
-changes_same (asked.Claim seg) answer other = refl
-changes_same (asked.Seal offered) answer other = refl
-changes_same (asked.Commit name root) answer other = refl
-changes_same asked.Abort answer other = refl
-changes_same (asked.OpenRead name) answer other = refl
-changes_same asked.ReadNext answer other = refl
-changes_same asked.EndRead answer other = refl
-changes_same (asked.Delete name) answer other = refl
-changes_same asked.ListNames answer other = refl
-changes_same (asked.GcStart percent) answer other = refl
-changes_same asked.Stat answer other = refl
-changes_same asked.Unique answer other = refl
+changes_same it answer other = refl
 
 -- the same step by another name
 abbrev pub with_step : FileEvent → StepValue → FileEvent

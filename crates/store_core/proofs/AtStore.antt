@@ -1,6 +1,6 @@
 -- What holds of a core that is at a store: its tables show the store, and its disk stands for the files; and what a step of its collection leaves of
 -- the store, and of the map of the index.
-use Rattle.store_core.proofs.Prelude.{ℕ, List, Option, Some, refl, subst, PlaceMap, Stored, Store, IsPartialIndexOf, IsStoreOf, Represents, IsAt, CoreState, ◌≡◌, ◌≤◌, Ok, sym, ◌∙◌, arith, length, ACTORS, Collection, Stage, Filter, Mark, Select, Flush, Release, End, IsLater, IsStepRefusal, Keeps, StepsTo, TablesAfter, moment, IsUnderWay, IsStoreAfter, step_safe, Phase, Refusal, ByteSet, IsIn, store_once, GoesOn, IsNotMade, TouchesBy, at_moment, IsSafeIn, IsUnderWayIn}
+use Rattle.store_core.proofs.Prelude.{ℕ, List, Option, Some, refl, subst, PlaceMap, Stored, Store, IsPartialIndexOf, IsStoreOf, Represents, IsAt, CoreState, ◌≡◌, ◌≤◌, Ok, sym, ◌∙◌, arith, length, ACTORS, Collection, Stage, Flush, Release, End, IsLater, IsStepRefusal, Keeps, StepsTo, TablesAfter, moment, IsUnderWay, IsStoreAfter, step_safe, Phase, Refusal, ByteSet, IsIn, store_once, GoesOn, IsNotMade, TouchesBy, at_moment, IsSafeIn, IsUnderWayIn}
 use Rattle.actor_parts.specs.declared.step.Answer.TheVariants as answers
 use Rattle.gc_steps.specs.declared.collection.Stage.TheVariants.{Sweep}
 use Rattle.gc_sweep.specs.declared.sweep.Next.{Next}
@@ -78,9 +78,6 @@ module _ (among : ByteSet) (s : Store) (stored : Stored) (old new : CoreState) (
   known_by : (stage : Stage) (next : Next) (r : Refusal) (c d : Collection) → (r ≡ refusals.DiskWrite → ⊥)
       → IsStepRefusal stage next (moment old.tables (Some at.index) old.disk c) new.disk r
       → Keeps stage next (moment old.tables (Some at.index) old.disk c) (at_moment new d) r → new.known ≡ Some at.index
-  known_by (Mark level slot) next r c d whole cause keeps = keeps.1
-  known_by (Filter slot) next r c d whole cause keeps = keeps.1
-  known_by Select next r c d whole cause keeps = keeps.1
   known_by Sweep (Copy source entry) refusals.DiskWrite c d whole cause keeps = absurd (whole refl)
   known_by Sweep (Copy source entry) (refusals.Damaged at_byte why) c d whole cause keeps = keeps.1 at.index refl
   known_by Sweep (Copy source entry) r c d whole cause keeps = keeps.1
@@ -89,6 +86,7 @@ module _ (among : ByteSet) (s : Store) (stored : Stored) (old new : CoreState) (
   known_by Sweep (Flush source entry) r c d whole cause keeps = keeps.1
   known_by Sweep (Release source entry) r c d whole cause keeps = absurd (whole cause)
   known_by Sweep End r c d whole cause keeps = absurd cause
+  known_by other next r c d whole cause keeps = keeps.1
 
   pub refused_known : (refusal : Refusal) (row : IsNotMade refusal old new) → (refusal ≡ refusals.DiskWrite → ⊥) → new.known ≡ Some at.index
   refused_known refusal row whole =

@@ -1,35 +1,27 @@
 -- What a step of a collection that has not begun to sweep does to a core: it only reads.
-use Rattle.store_core.proofs.Prelude.{◌≡◌, ◌⊎◌, inl, inr, ℕ, Option, Some, None, Result, Ok, Err, sym, ◌∙◌, ap, subst, Answer, StepValue, Ending, ending, DiskView, OnlyReads, SweepValue, Collection, Stage, Filter, Mark, Select, KeepsMarks, Scans, Keeps, Moment, StepsTo, TablesAfter, Touches, Phase, Refusal, blames, Tables, Stop, GcEffect, GcRow, GoesOn, IsNotMade, TouchesBy, at_moment, Effect, KeepsTables, Row, StepsOr, IsNoSweep, CoreState}
+use Rattle.store_core.proofs.Prelude.{◌≡◌, ◌⊎◌, inl, inr, ℕ, Option, Some, None, Result, Ok, Err, sym, ◌∙◌, ap, subst, Answer, StepValue, Ending, ending, DiskView, OnlyReads, SweepValue, Collection, Stage, Mark, KeepsMarks, Scans, Keeps, Moment, StepsTo, TablesAfter, Touches, Phase, Refusal, blames, Tables, Stop, GcEffect, GcRow, GoesOn, IsNotMade, TouchesBy, at_moment, Effect, KeepsTables, Row, StepsOr, IsNoSweep, CoreState}
 use Rattle.actor_parts.specs.declared.step.Answer.TheVariants as answers
 use Rattle.gc_sweep.specs.declared.sweep.Next.{Next}
 use Rattle.gc_steps.specs.declared.collection.Stage.TheVariants.{Sweep}
 use Rattle.refusals.specs.declared.refusal.Refusal.TheVariants as refusals
 use Rattle.store_core.specs.Finding.{OnlyReadsBeforeSweep}
-
-pub same_running : (a b : Collection) (o : Option Collection) → o ≡ Some a → o ≡ Some b → a ≡ b
-same_running a b o one two = let both : Some a ≡ Some b = sym one ∙ two in cc
+use Rattle.store_core.proofs.AtStore.{same_some}
 
 -- ---- by its stage
 
 touches_none : (stage : Stage) (next : Next) (s : SweepValue) (t : Tables) (e : Ending) (old new : DiskView) → IsNoSweep stage → Touches stage next s t e old new
     → OnlyReads old new
-touches_none (Mark level slot) next s t e old new early touches = touches.only
-touches_none (Filter slot) next s t e old new early touches = touches.only
-touches_none Select next s t e old new early touches = touches.only
 touches_none Sweep next s t e old new early touches = absurd early
+touches_none other next s t e old new early touches = touches.only
 
 moves_none : (stage : Stage) (next : Next) (old new : Moment) → IsNoSweep stage → StepsTo stage next old new → TablesAfter stage next old new → (new.tables ≡ old.tables)
     × (new.known ≡ old.known)
-moves_none (Mark level slot) next old new early steps tables = (tables, steps.1)
-moves_none (Filter slot) next old new early steps tables = (tables, steps.1)
-moves_none Select next old new early steps tables = (tables, steps.1)
 moves_none Sweep next old new early steps tables = absurd early
+moves_none other next old new early steps tables = (tables, steps.1)
 
 keeps_index : (stage : Stage) (next : Next) (old new : Moment) (refusal : Refusal) → IsNoSweep stage → Keeps stage next old new refusal → new.known ≡ old.known
-keeps_index (Mark level slot) next old new refusal early kept = kept.1
-keeps_index (Filter slot) next old new refusal early kept = kept.1
-keeps_index Select next old new refusal early kept = kept.1
 keeps_index Sweep next old new refusal early kept = absurd early
+keeps_index other next old new refusal early kept = kept.1
 
 -- ---- a step
 
@@ -57,7 +49,7 @@ module _ (old new : CoreState) (c : Collection) (runs : old.collection ≡ Some 
 
   went_on : (phase : Phase) → GoesOn phase old new → new.parts ≡ old.parts → HasGoneOn
   went_on phase goes parts =
-      let same : goes.before ≡ c = same_running goes.before c old.collection goes.ran runs in
+      let same : goes.before ≡ c = same_some goes.before c old.collection goes.ran runs in
       let steps = subst (λ (x : Collection). StepsTo x.stage x.sweep.next (at_moment old x) (at_moment new goes.after)) same goes.steps in
       let tables = subst (λ (x : Collection). TablesAfter x.stage x.sweep.next (at_moment old x) (at_moment new goes.after)) same goes.tables in
       let moves = moves_none c.stage c.sweep.next (at_moment old c) (at_moment new goes.after) early steps tables in
@@ -65,7 +57,7 @@ module _ (old new : CoreState) (c : Collection) (runs : old.collection ≡ Some 
 
   was_refused : (refusal : Refusal) → IsNotMade refusal old new → new.parts ≡ old.parts → HasNotGoneOn refusal
   was_refused refusal made parts =
-      let same : made.before ≡ c = same_running made.before c old.collection made.ran runs in
+      let same : made.before ≡ c = same_some made.before c old.collection made.ran runs in
       let kept = subst (λ (x : Collection). Keeps x.stage x.sweep.next (at_moment old x) (at_moment new made.after) refusal) same made.kept in
       record {
         after = made.after;
@@ -79,7 +71,7 @@ module _ (old new : CoreState) (c : Collection) (runs : old.collection ≡ Some 
   pub gc_goes : (answer : Result Answer Refusal) → GcRow answer old new → HasGoneOn ⊎ ((refusal : Refusal) × HasNotGoneOn refusal)
   gc_goes (Ok (answers.Did phase)) row = inl (went_on phase row.0 row.1)
   gc_goes (Ok (answers.Done freed copied)) row =
-      let same = same_running row.0.before c old.collection row.0.ran runs in
+      let same = same_some row.0.before c old.collection row.0.ran runs in
       absurd (subst IsNoSweep (ap (λ (x : Collection). x.stage) (sym same) ∙ row.0.at_end.0) early)
   gc_goes (Err refusals.NotCollecting) row = absurd (let wrong : None ≡ Some c = sym row.0.none_ran ∙ runs in cc)
   gc_goes (Err refusal) row = inr (refusal, was_refused refusal row.0 row.1)

@@ -18,19 +18,7 @@ use Rattle.store_core.proofs.RunningOn.{commit_held, delete_held, sealed_last, s
 -- no step that was refused was made
 refused_none : (step : StepValue) (refusal : Refusal) → made_by step (Err refusal) ≡ 0
 refused_none asked.GcStep refusal = refl
-refused_none asked.Begin refusal = refl
-refused_none (asked.Claim seg) refusal = refl
-refused_none (asked.Seal offered) refusal = refl
-refused_none (asked.Commit name root) refusal = refl
-refused_none asked.Abort refusal = refl
-refused_none (asked.OpenRead name) refusal = refl
-refused_none asked.ReadNext refusal = refl
-refused_none asked.EndRead refusal = refl
-refused_none (asked.Delete name) refusal = refl
-refused_none asked.ListNames refusal = refl
-refused_none (asked.GcStart percent) refusal = refl
-refused_none asked.Stat refusal = refl
-refused_none asked.Unique refusal = refl
+refused_none other refusal = refl
 
 -- a refusal leaves a collection, but for its live keys
 refused_live : (old new : CoreState) (b : Collection) (stage : Stage) (next : Next) (refusal : Refusal) (a : Collection)
@@ -38,13 +26,11 @@ refused_live : (old new : CoreState) (b : Collection) (stage : Stage) (next : Ne
     → (live : LiveKeys) × (a ≡ record b { live = live })
 refused_live old new b (Mark level slot) next refusals.Memory a (inl same, known) = (b.live, same)
 refused_live old new b (Mark level slot) next refusals.Memory a (inr only, known) = (a.live, only.collection_is)
-refused_live old new b (Mark level slot) next refusal a keeps = (b.live, keeps.0)
-refused_live old new b (Filter slot) next refusal a keeps = (b.live, keeps.0)
-refused_live old new b Select next refusal a keeps = (b.live, keeps.0)
 refused_live old new b Sweep (Copy source entry) refusal a keeps = (b.live, keeps.0)
 refused_live old new b Sweep (Flush source entry) refusal a keeps = (b.live, keeps.0)
 refused_live old new b Sweep (Release source entry) refusal a keeps = (b.live, keeps)
 refused_live old new b Sweep End refusal a keeps = (b.live, keeps.0)
+refused_live old new b other next refusal a keeps = (b.live, keeps.0)
 
 -- What a step leaves of a collection that runs: it chose no fewer sources, and chose them once; and that step and those that then come are no
 -- more than those that came before it.

@@ -1,5 +1,5 @@
 -- No step of a core that is at a store finds damage, or misses what a file needs.
-use Rattle.store_core.proofs.Prelude.{some_same, ◌≡◌, ◌≢◌, ◌<◌, ℕ, zero, suc, List, [], ◌∷◌, length, Option, Some, None, Result, Ok, Err, refl, sym, ◌∙◌, ap, subst, arith, AllByRecursion, sha256, key_of, Shows, shown_content, Kind, Place, kind_byte, Segment, KindSegment, Root, Top, NameMap, Answer, StepValue, Refusal, HasNoCollisions, ByteSet, IsIn, IsAmong, Stands, Stored, Store, names_of, newest, bytes_at, copy_digest, newest_so, IsNodeEntry, nodes_so, IsAmongThese, among_so, Stop, Row, ClaimRow, SealRow, CommitRow, OpenRow, ReadRow, EndRow, DeleteRow, ListRow, IsNotGiven, StepsOr, FileEvent, FileStep, IsAt, IsGivenRight, IsSafeIn, CoreState, IsUnderWayIn, Collection, Filter, Mark, Select, GcRow, IsNotMade, StartRow, IsSafeAt, PlaceMap, Represents, Stage, moment, IsStepRefusal, Memory, roots_of}
+use Rattle.store_core.proofs.Prelude.{some_same, ◌≡◌, ◌≢◌, ◌<◌, ℕ, zero, suc, List, [], ◌∷◌, length, Option, Some, None, Result, Ok, Err, refl, sym, ◌∙◌, ap, subst, arith, AllByRecursion, sha256, key_of, Shows, shown_content, Kind, Place, kind_byte, KindSegment, Root, Top, NameMap, Answer, StepValue, Refusal, HasNoCollisions, ByteSet, IsIn, IsAmong, Stands, Stored, Store, names_of, newest, bytes_at, copy_digest, newest_so, IsNodeEntry, nodes_so, IsAmongThese, among_so, Stop, Row, ClaimRow, SealRow, CommitRow, OpenRow, ReadRow, EndRow, DeleteRow, ListRow, IsNotGiven, StepsOr, FileEvent, FileStep, IsAt, IsGivenRight, IsSafeIn, CoreState, IsUnderWayIn, Collection, Mark, GcRow, IsNotMade, StartRow, IsSafeAt, PlaceMap, Represents, Stage, moment, IsStepRefusal, Memory, roots_of}
 use Rattle.std.proofs.Common.{get_or, option_map, IfErr}
 use Rattle.std.specs.Prelude.{IsTrue, slice_get, take}
 use Rattle.container_meta.specs.declared.kind.Kind.TheVariants as kinds
@@ -22,15 +22,15 @@ use Rattle.read_steps.specs.Trees.{AllHeld}
 use Rattle.read_steps.specs.Walking.{IsHeldAnswer}
 use Rattle.read_steps.proofs.Visited.{names_held}
 use Rattle.ingest_steps.specs.Offering.{IsFirstUnlikeIn}
+use Rattle.ingest_steps.proofs.PinList.{all_at}
 use Rattle.store_core.specs.Core.{IsAtOther, IsUncounted}
 use Rattle.store_core.specs.Runs.{AreAmong}
-use Rattle.store_core.proofs.ManySealed.{all_taken}
 use Rattle.store_core.proofs.OwnParts.{stuck_held}
-use Rattle.gc_steps.specs.declared.collection.Stage.TheVariants.{Sweep}
 use Rattle.gc_steps.proofs.NoDamage.{IsClean, no_damage, IsMarked}
 use Rattle.gc_steps.specs.Starting.{IsFound, IsStartRefusal}
 use Rattle.gc_steps.proofs.RootsFound.{begins_by_memory, roots_found}
 use Rattle.store_core.specs.Collecting.{IsUnbegun}
+use Rattle.store_core.proofs.ManySealed.{all_taken}
 
 -- ---- what no step answers
 
@@ -82,11 +82,6 @@ pub record HasCopy (found : Option Copy) (place : Place) : Type 0 where
 copy_placed : (found : Option Copy) (place : Place) → option_map (λ c. c.place) found ≡ Some place → HasCopy found place
 copy_placed None place is = absurd cc
 copy_placed (Some copy) place is = record { copy = copy; found_is = refl; place_is = some_same copy.place place is }
-
-all_at : (P : Segment → Type 0) (segments : List Segment) (number : ℕ) → number < length segments → AllByRecursion P segments → P (segment_at segments number)
-all_at P [] number within all = absurd (omega (arith, within))
-all_at P (s ∷ ss) zero within all = all.0
-all_at P (s ∷ ss) (suc number) within all = all_at P ss number (omega (arith, within)) all.1
 
 all_got : (P : Contents → Type 0) (cs : List Contents) (number : ℕ) (c : Contents) → slice_get cs number ≡ Some c → AllByRecursion P cs → P c
 all_got P [] number c here all = absurd cc
@@ -346,9 +341,7 @@ module _ (among : ByteSet) (s : Store) (stored : Stored) (old new : CoreState) (
     -- while it marks, the marks are closed
     marked_at : (c : Collection) (stage : Stage) → IsSafeAt stage at.index s old.parts image c → IsMarked at.index s old.parts image c stage
     marked_at c (Mark level slot) safe = safe
-    marked_at c (Filter slot) safe = tt
-    marked_at c Select safe = tt
-    marked_at c Sweep safe = tt
+    marked_at c other safe = tt
 
     gc_clean : (refusal : Refusal) → IsNotMade refusal old new → IsClean refusal
     gc_clean refusal row =

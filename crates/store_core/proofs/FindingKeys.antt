@@ -1,17 +1,17 @@
 -- Which keys a collection found once it has marked, step by step.
-use Rattle.store_core.proofs.Prelude.{◌≡◌, ◌⊎◌, inl, inr, ℕ, ◌≤◌, List, [], ◌∷◌, Option, Some, None, Result, refl, sym, ◌∙◌, subst, arith, Answer, StepValue, PlaceMap, DiskView, IsLater, OnlyReads, reads_here, reads_on, Collection, Stage, Filter, Mark, Select, KeepsMarks, Scans, HasMarkedAll, HeadersAreApart, RootKeys, roots_of, AreFound, HasStage, IsUnderWay, Refusal, Store, AreHeaders, IsPartialIndexOf, last_within, RepresentsSlots, Tables, Stop, starts, GcEffect, GcRow, CoreStep, Effect, KeepsTables, Row, Steps, StepsOr, IsNoSweep, CoreRun, CoreState, Event, IsRunning, IsUnderWayIn, IsUp, UnlessStopped}
+use Rattle.store_core.proofs.Prelude.{◌≡◌, ◌⊎◌, inl, inr, ℕ, ◌≤◌, List, [], ◌∷◌, Option, Some, None, Result, refl, sym, ◌∙◌, subst, arith, Answer, StepValue, PlaceMap, DiskView, IsLater, OnlyReads, reads_here, reads_on, Collection, Stage, Mark, KeepsMarks, Scans, HasMarkedAll, HeadersAreApart, RootKeys, roots_of, AreFound, HasStage, IsUnderWay, Refusal, Store, AreHeaders, IsPartialIndexOf, last_within, RepresentsSlots, Tables, Stop, starts, GcEffect, GcRow, CoreStep, Effect, KeepsTables, Row, Steps, StepsOr, IsNoSweep, CoreRun, CoreState, Event, IsRunning, IsUnderWayIn, IsUp, UnlessStopped}
 use Rattle.actor_parts.specs.StepValue as asked
 use Rattle.dd_disk.proofs.Shows.{since, until}
-use Rattle.gc_steps.specs.declared.collection.Stage.TheVariants.{Sweep}
 use Rattle.gc_steps.specs.Finding.{FindsAll}
 use Rattle.gc_steps.proofs.AllFound.{IsFinding, begins_finding, found_all, refusal_finds, scan_finds}
 use Rattle.gc_steps.proofs.RootKeys.{root_live}
 use Rattle.store_core.specs.Collecting.{Begins}
 use Rattle.store_core.specs.Finding.{AreItsSteps, FindsKeys, IsIndexed}
 use Rattle.store_core.proofs.CoreRuns.{running_step}
-use Rattle.store_core.proofs.BeforeSweep.{gc_goes, has_not_scanned, has_scanned, only_read, same_running}
+use Rattle.store_core.proofs.BeforeSweep.{gc_goes, has_not_scanned, has_scanned, only_read}
 use Rattle.store_core.proofs.RunningOn.{step_runs}
 use Rattle.store_core.proofs.Stepping.{step_later}
+use Rattle.store_core.proofs.AtStore.{same_some}
 
 module _ (s : Store) (index : PlaceMap) (headers : AreHeaders s.held) (partial : IsPartialIndexOf s.held index) (roots : RootKeys) (first : DiskView) where
   -- no header but the store's was shown since with its digest
@@ -87,9 +87,7 @@ module _ (s : Store) (index : PlaceMap) (headers : AreHeaders s.held) (partial :
     by_stage : (stage : Stage) → m.c.stage ≡ stage → IsUnderWayIn old.tables.held old.collection → (answer : Result Answer Refusal) → GcRow answer old new
         → GcEffect answer old new → IsSoFar new
     by_stage (Mark level slot) was under_way answer row effect = inl (gc_marks level slot was under_way answer row effect)
-    by_stage (Filter slot) was under_way answer row effect = all_found (subst HasMarkedAll (sym was) tt)
-    by_stage Select was under_way answer row effect = all_found (subst HasMarkedAll (sym was) tt)
-    by_stage Sweep was under_way answer row effect = all_found (subst HasMarkedAll (sym was) tt)
+    by_stage other was under_way answer row effect = all_found (subst HasMarkedAll (sym was) tt)
 
     event_finds : (e : Event) → e.step ≡ asked.GcStep → (stop : Option Stop) → StepsOr stop e old new → UnlessStopped stop (IsUp old) → IsSoFar new
     event_finds e its None steps up =
@@ -171,5 +169,5 @@ module _ (C : Type 0) (state : C → CoreState) where
           → FindsAll index (roots_of (state old).tables.names (state old).parts)
       by_end (inl m) =
           found_all index s indexed.headers (indexed.represents.index_is_newest index indexed.known_is) m.c (roots_of (state old).tables.names (state old).parts) (m.finding apart)
-          (subst (λ (x : Collection). HasMarkedAll x.stage) (same_running c m.c (state new).collection is m.runs) marked)
+          (subst (λ (x : Collection). HasMarkedAll x.stage) (same_some c m.c (state new).collection is m.runs) marked)
       by_end (inr found) = found apart

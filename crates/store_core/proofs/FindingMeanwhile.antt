@@ -36,12 +36,13 @@ use Rattle.store_core.specs.Collecting.{Begins}
 use Rattle.store_core.specs.Core.{ChangesTo, Makes, changed_by, seals_from}
 use Rattle.store_core.specs.Finding.{FindsKeysMeanwhile, RunBeforeSweep}
 use Rattle.store_core.proofs.CoreRuns.{running_step, runs_before, was_running}
-use Rattle.store_core.proofs.BeforeSweep.{HasGoneOn, HasNotGoneOn, gc_goes, has_not_scanned, has_scanned, same_running}
+use Rattle.store_core.proofs.BeforeSweep.{HasGoneOn, HasNotGoneOn, gc_goes, has_not_scanned, has_scanned}
 use Rattle.store_core.proofs.Rooms.{free_held}
 use Rattle.store_core.proofs.RootsKept.{abort_none, begin_none, end_none, list_none, none_same, open_none, read_none, stat_none, unique_none, within_parts}
 use Rattle.store_core.proofs.RunningOn.{seal_kept, step_runs}
 use Rattle.store_core.proofs.SafeSteps.{stored_pin}
 use Rattle.store_core.proofs.ManySealed.{all_taken, comes_all, has_keys, none_sealed, pins_all}
+use Rattle.store_core.proofs.AtStore.{same_some}
 
 first_true : (a b : Bool) → a && b ≡ true → a ≡ true
 first_true true b e = refl
@@ -512,7 +513,7 @@ module _ (first : List (Option HeaderValue)) (roots : RootKeys) where
 
         early : IsNoSweep m.c.stage
         early = subst (λ (x : Collection). IsNoSweep x.stage)
-            (same_running run.1.0.not_swept.collection m.c (state mid).collection run.1.0.not_swept.runs m.runs) run.1.0.not_swept.early
+            (same_some run.1.0.not_swept.collection m.c (state mid).collection run.1.0.not_swept.runs m.runs) run.1.0.not_swept.early
 
 -- ---- slots of the same ids
 
@@ -548,7 +549,7 @@ module _ (C : Type 0) (state : C → CoreState) where
   pub finds_keys_meanwhile : FindsKeysMeanwhile C state
   finds_keys_meanwhile actor percent snapshot buf events s index old begun new c up runs indexed began run stays is marked =
       let m = finds_on s.held roots C state events begun new run (step_runs (state old) (state begun) (starts actor percent snapshot buf) began up) stays so in
-      let one : m.c ≡ c = same_running m.c c (state new).collection m.runs is in
+      let one : m.c ≡ c = same_some m.c c (state new).collection m.runs is in
       record {
         index = m.index;
         known_is = m.known_is;

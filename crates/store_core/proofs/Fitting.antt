@@ -9,35 +9,23 @@ use Rattle.store_core.proofs.Prelude.{ℕ, List, Option, Some, None, Result, Ok,
 module _ (actor : ℕ) (buf : List ℕ) (old new : CoreState) where
   row_fits : (step : StepValue) (answer : Answer) → Row step actor (Ok answer) buf old new → IsAnswerTo step answer
   row_fits asked.Begin answers.Begun row = tt
-  row_fits asked.Begin answer row = absurd row
   row_fits (asked.Claim seg) answers.Held row = tt
   row_fits (asked.Claim seg) answers.Absent row = tt
-  row_fits (asked.Claim seg) answer row = absurd row
   row_fits (asked.Seal offered) (answers.Sealed id count) row = (row.some, row.few)
-  row_fits (asked.Seal offered) answer row = absurd row
   row_fits (asked.Commit name root) (answers.Committed sequence) row = tt
-  row_fits (asked.Commit name root) answer row = absurd row
   row_fits asked.Abort answers.Aborted row = tt
-  row_fits asked.Abort answer row = absurd row
   row_fits (asked.OpenRead name) (answers.Opened count) row = tt
-  row_fits (asked.OpenRead name) answer row = absurd row
   row_fits asked.ReadNext (answers.Bytes count) row = tt
   row_fits asked.ReadNext answers.End row = tt
-  row_fits asked.ReadNext answer row = absurd row
   row_fits asked.EndRead answers.Dropped row = tt
-  row_fits asked.EndRead answer row = absurd row
   row_fits (asked.Delete name) (answers.Deleted sequence) row = tt
-  row_fits (asked.Delete name) answer row = absurd row
   row_fits asked.ListNames (answers.Listed files) row = tt
-  row_fits asked.ListNames answer row = absurd row
   row_fits (asked.GcStart percent) (answers.Started snapshot) row = tt
-  row_fits (asked.GcStart percent) answer row = absurd row
   row_fits asked.GcStep (answers.Did phase) row = tt
   row_fits asked.GcStep (answers.Done freed copied) row = tt
-  row_fits asked.GcStep answer row = absurd row
   row_fits asked.Stat answer row = tt
   row_fits asked.Unique (answers.Unique segments bytes) row = tt
-  row_fits asked.Unique answer row = absurd row
+  row_fits other answer row = absurd row
 
   step_fits : (stop : Option Stop) (step : StepValue) (answer : Result Answer Refusal)
       → StepsOr stop (record { actor = actor; step = step; answer = answer; buf = buf }) old new → IfOk answer (IsAnswerTo step)

@@ -327,20 +327,11 @@ module _ (s : Store) (base : List ℕ) (t : Store) (old new : CoreState) (framed
         ]) (effect.frame.leaves given known)
 
     by_effect : (step : StepValue) (answer : Result Answer Refusal) → IsNoGcStep step → commands_of step ≤ left → Effect step answer old new → CrashLeaves Written old.disk new.disk
-    by_effect asked.Begin answer other few effect = by_reads effect.disk.only
-    by_effect (asked.Claim seg) answer other few effect = by_reads effect.disk.only
     by_effect (asked.Seal offered) answer other few effect = by_seal offered answer effect
     by_effect (asked.Commit name root) answer other few effect = by_name name (Put root) answer few effect
-    by_effect asked.Abort answer other few effect = by_reads effect.disk.only
-    by_effect (asked.OpenRead name) answer other few effect = by_reads effect.disk.only
-    by_effect asked.ReadNext answer other few effect = by_reads effect.disk.only
-    by_effect asked.EndRead answer other few effect = by_reads effect.disk.only
     by_effect (asked.Delete name) answer other few effect = by_name name Delete answer few effect
-    by_effect asked.ListNames answer other few effect = by_reads effect.disk.only
-    by_effect (asked.GcStart percent) answer other few effect = by_reads effect.disk.only
     by_effect asked.GcStep answer other few effect = absurd other
-    by_effect asked.Stat answer other few effect = by_reads effect.disk.only
-    by_effect asked.Unique answer other few effect = by_reads effect.disk.only
+    by_effect it answer other few effect = by_reads effect.disk.only
 
     step_leaves : (e : Event) (stop : Option Stop) → IsNoGcStep e.step → commands_of e.step ≤ left → StepsOr stop e old new → CrashLeaves Written old.disk new.disk
     step_leaves e None other few steps = by_effect e.step e.answer other few steps.made.effect
@@ -559,11 +550,8 @@ module _ (s : Store) (base : List ℕ) (t : Store) (old new : CoreState) (framed
     leads actor buf (asked.Delete name) (Ok answer) other row effect stops calm = absurd row
     leads actor buf (asked.Delete name) (Err refusal) other row effect stops calm =
         still effect.kept effect.disk.later (reads_count (only_reads old new stays (asked.Delete name) refusal stops effect.disk.ends)) calm
-    leads actor buf asked.ListNames answer other row effect stops calm = rests answer effect calm
-    leads actor buf (asked.GcStart percent) answer other row effect stops calm = rests answer effect calm
     leads actor buf asked.GcStep answer other row effect stops calm = absurd other
-    leads actor buf asked.Stat answer other row effect stops calm = rests answer effect calm
-    leads actor buf asked.Unique answer other row effect stops calm = rests answer effect calm
+    leads actor buf it answer other row effect stops calm = rests answer effect calm
 
     pub step_leads : (e : Event) → IsNoGcStep e.step → Steps e old new → Leads s base (changes_by e.step e.answer) t new
     step_leads e other steps =

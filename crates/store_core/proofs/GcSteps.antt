@@ -15,13 +15,11 @@ use Rattle.gc_steps.proofs.RefusedSafe.{refused_safe}
 
 -- what a step is called
 pub phase_is : (stage : Stage) (next : Next) (freed copied : ℕ) (phase : Phase) → answer_at stage next freed copied ≡ Did phase → phase_at stage next ≡ phase
-phase_is (Mark level slot) next freed copied phase is = cc
-phase_is (Filter slot) next freed copied phase is = cc
-phase_is Select next freed copied phase is = cc
 phase_is SweepStage (Copy source entry) freed copied phase is = cc
 phase_is SweepStage (Flush source entry) freed copied phase is = cc
 phase_is SweepStage (Release source entry) freed copied phase is = cc
 phase_is SweepStage End freed copied phase is = absurd (let wrong = is in cc)
+phase_is other next freed copied phase is = cc
 
 pub phase_of : (c : Collection) (phase : Phase) → answer_of c ≡ Did phase → phase_at c.stage c.sweep.next ≡ phase
 phase_of c phase is = phase_is c.stage c.sweep.next c.sweep.freed c.sweep.copied phase is
@@ -51,13 +49,11 @@ did_changes c phase index s t image is after =
 
 -- the journal is what it was
 journal_same : (stage : Stage) (next : Next) (old new : Moment) → TablesAfter stage next old new → new.tables.journal ≡ old.tables.journal
-journal_same (Mark level slot) next old new after = ap (λ (x : Tables). x.journal) after
-journal_same (Filter slot) next old new after = ap (λ (x : Tables). x.journal) after
-journal_same Select next old new after = ap (λ (x : Tables). x.journal) after
 journal_same SweepStage (Copy source entry) old new after = ap (λ (x : Tables). x.journal) after
 journal_same SweepStage (Flush source entry) old new after = ap (λ (x : Tables). x.journal) after.1.written.others_stay
 journal_same SweepStage (Release source entry) old new after = ap (λ (x : Tables). x.journal) after.others_stay
 journal_same SweepStage End old new after = ap (λ (x : Tables). x.journal) after
+journal_same other next old new after = ap (λ (x : Tables). x.journal) after
 
 -- at its end it only reads
 pub end_reads : (c : Collection) (t : Tables) (e : Ending) (old new : DiskView) → c.stage ≡ SweepStage → c.sweep.next ≡ End → Touches c.stage c.sweep.next c.sweep t e old new

@@ -118,23 +118,14 @@ module _ (old new : CoreState) (stays : new.stop ≡ None) (given : List ℕ) (h
 
   pub effect_settled : (step : StepValue) (answer : Result Answer Refusal) → IsNoGcStep step → StopsAfter step answer old.acknowledged new.stop → Effect step answer old new
       → Settled
-  effect_settled asked.Begin answer other stops effect = reads_settled effect.disk.only
-  effect_settled (asked.Claim seg) answer other stops effect = reads_settled effect.disk.only
   effect_settled (asked.Seal offered) (Ok answer) other stops effect = effect.disk.left settled
   effect_settled (asked.Seal offered) (Err refusal) other stops effect = seal_settled offered refusal stops effect.disk.left
   effect_settled (asked.Commit name root) (Ok answer) other stops effect = durable_settled effect.durable
   effect_settled (asked.Commit name root) (Err refusal) other stops effect = reads_settled (only_reads old new stays (asked.Commit name root) refusal stops effect.disk.ends)
   effect_settled (asked.Delete name) (Ok answer) other stops effect = durable_settled effect.durable
   effect_settled (asked.Delete name) (Err refusal) other stops effect = reads_settled (only_reads old new stays (asked.Delete name) refusal stops effect.disk.ends)
-  effect_settled asked.ListNames answer other stops effect = reads_settled effect.disk.only
-  effect_settled asked.Abort answer other stops effect = reads_settled effect.disk.only
-  effect_settled (asked.OpenRead name) answer other stops effect = reads_settled effect.disk.only
-  effect_settled asked.ReadNext answer other stops effect = reads_settled effect.disk.only
-  effect_settled asked.EndRead answer other stops effect = reads_settled effect.disk.only
-  effect_settled (asked.GcStart percent) answer other stops effect = reads_settled effect.disk.only
   effect_settled asked.GcStep answer other stops effect = absurd other
-  effect_settled asked.Stat answer other stops effect = reads_settled effect.disk.only
-  effect_settled asked.Unique answer other stops effect = reads_settled effect.disk.only
+  effect_settled it answer other stops effect = reads_settled effect.disk.only
 
   -- ---- a step of a collection
 
@@ -144,13 +135,11 @@ module _ (old new : CoreState) (stays : new.stop ≡ None) (given : List ℕ) (h
   did_settled : (before after : Collection) (stage : Stage) (next : Next) → old.disk.size ≡ size_of old.tables.slots
       → StepsTo stage next (at_moment old before) (at_moment new after)
       → Touches stage next before.sweep old.tables Done old.disk new.disk → Settled
-  did_settled before after (Mark level slot) next sized steps touches = reads_settled touches.only
-  did_settled before after (Filter slot) next sized steps touches = reads_settled touches.only
-  did_settled before after Select next sized steps touches = reads_settled touches.only
   did_settled before after SweepStage (CopyNext source entry) sized steps touches = changes_settled Done sized touches
   did_settled before after SweepStage (Flush source entry) sized steps touches = touches.0.left settled
   did_settled before after SweepStage (Release source entry) sized steps touches = durable_settled steps.2
   did_settled before after SweepStage End sized steps touches = reads_settled touches.only
+  did_settled before after other next sized steps touches = reads_settled touches.only
 
   broken : StopsAfter asked.GcStep (Err refusals.DiskWrite) old.acknowledged new.stop → ⊥
   broken is = let both = sym stays ∙ is in cc

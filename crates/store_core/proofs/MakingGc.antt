@@ -8,7 +8,6 @@ use Rattle.actor_parts.specs.declared.step.Answer.TheVariants as answers
 use Rattle.actor_parts.specs.StepValue as asked
 use Rattle.refusals.specs.declared.refusal.Refusal.TheVariants as refusals
 use Rattle.gc_enumerate.specs.declared.fault.ScanFault.{ScanFault}
-use Rattle.gc_enumerate.specs.declared.fault.ScanFault.TheVariants as faults
 use Rattle.gc_sweep.specs.declared.sweep.Next.{Next}
 use Rattle.gc_sweep.specs.declared.sweep.Next.TheVariants.{Copy}
 use Rattle.gc_steps.specs.declared.collection.Stage.TheVariants.{Sweep}
@@ -18,6 +17,7 @@ use Rattle.gc_steps.specs.Marking.{IsMarkRefusal}
 use Rattle.gc_steps.specs.Scanning.{step_refusal}
 use Rattle.gc_steps.specs.Stepping.{GoesBy, Makes, Refuses}
 use Rattle.store_core.proofs.Rooms.{room_ended}
+use Rattle.gc_enumerate.specs.declared.fault.ScanFault.TheVariants as faults
 
 -- ---- the end
 
@@ -48,10 +48,7 @@ at_end Sweep End freed copied count many is = record { stage_is = refl; next_is 
 -- a collection runs, so it is not for want of one
 stop_runs : (fault : ScanFault) → refusals.NotCollecting ≡ step_refusal fault → ⊥
 stop_runs faults.DiskRead is = let wrong = is in cc
-stop_runs (faults.Damaged at_byte why) is = let wrong = is in cc
-stop_runs (faults.Corrupt slot offset count want got) is = let wrong = is in cc
-stop_runs (faults.Missing key) is = let wrong = is in cc
-stop_runs faults.Memory is = let wrong = is in cc
+stop_runs other is = let wrong = is in cc
 
 mark_runs : (t : SlotTable) (known : Option PlaceMap) (old new : DiskView) (level slot : ℕ) (live : LiveKeys)
     → IsMarkRefusal t known old new level slot live refusals.NotCollecting → ⊥

@@ -237,26 +237,14 @@ module _ (t : Store) (given : List ℕ) (old new : CoreState) (roomy : IsRoomy t
 
   -- a step that stops the core
   module _ (stop : Stop) (stopped : new.stop ≡ Some stop) where
-    runs_not : new.stop ≡ None → ⊥
-    runs_not runs = let both = sym runs ∙ stopped in absurd cc
-
     by_effect : (actor : ℕ) (buf : List ℕ) (step : StepValue) (answer : Result Answer Refusal) → IsNoGcStep step → Row step actor answer buf old new → Effect step answer old new
         → StopsAfter step answer old.acknowledged new.stop
         → KnownWith new.disk.content HasReserveIn
-    by_effect actor buf asked.Begin answer other row effect stops = by_reads effect.disk.only
-    by_effect actor buf (asked.Claim seg) answer other row effect stops = by_reads effect.disk.only
     by_effect actor buf (asked.Seal offered) answer other row effect stops = sealed_room offered answer effect
     by_effect actor buf (asked.Commit name root) answer other row effect stops = named_room name (Put root) answer effect
-    by_effect actor buf asked.Abort answer other row effect stops = by_reads effect.disk.only
-    by_effect actor buf (asked.OpenRead name) answer other row effect stops = by_reads effect.disk.only
-    by_effect actor buf asked.ReadNext answer other row effect stops = by_reads effect.disk.only
-    by_effect actor buf asked.EndRead answer other row effect stops = by_reads effect.disk.only
     by_effect actor buf (asked.Delete name) answer other row effect stops = named_room name Delete answer effect
-    by_effect actor buf asked.ListNames answer other row effect stops = by_reads effect.disk.only
-    by_effect actor buf (asked.GcStart percent) answer other row effect stops = by_reads effect.disk.only
     by_effect actor buf asked.GcStep answer other row effect stops = absurd other
-    by_effect actor buf asked.Stat answer other row effect stops = by_reads effect.disk.only
-    by_effect actor buf asked.Unique answer other row effect stops = by_reads effect.disk.only
+    by_effect actor buf it answer other row effect stops = by_reads effect.disk.only
 
     by_stop : (e : Event) (was : Option Stop) → IsNoGcStep e.step → StepsOr was e old new → KnownWith new.disk.content HasReserveIn
     by_stop e None other steps = by_effect e.actor e.buf e.step e.answer other steps.made.row steps.made.effect steps.stops

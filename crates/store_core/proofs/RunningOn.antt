@@ -52,23 +52,14 @@ module _ (old new : CoreState) where
   module _ (actor : ℕ) (buf : List ℕ) where
     pub effect_runs : (step : StepValue) (answer : Result Answer Refusal) → Row step actor answer buf old new → Effect step answer old new → Runs old.disk.size None old.tables
         → Runs new.disk.size None new.tables
-    effect_runs asked.Begin answer row effect = same_runs effect.disk.only.later effect.tables.tables_are
-    effect_runs (asked.Claim seg) answer row effect = same_runs effect.disk.only.later effect.tables.tables_are
     effect_runs (asked.Seal offered) (Ok answer) row effect = effect.made.runs
     effect_runs (asked.Seal offered) (Err refusal) row effect = same_runs effect.disk.later (tables_kept refusal effect.kept)
     effect_runs (asked.Commit name root) (Ok answer) row effect = effect.made.runs
     effect_runs (asked.Commit name root) (Err refusal) row effect = same_runs effect.disk.later effect.kept.tables_are
     effect_runs (asked.Delete name) (Ok answer) row effect = effect.made.runs
     effect_runs (asked.Delete name) (Err refusal) row effect = same_runs effect.disk.later effect.kept.tables_are
-    effect_runs asked.ListNames answer row effect = same_runs effect.disk.only.later effect.tables.tables_are
-    effect_runs asked.Abort answer row effect = same_runs effect.disk.only.later effect.tables.tables_are
-    effect_runs (asked.OpenRead name) answer row effect = same_runs effect.disk.only.later effect.tables.tables_are
-    effect_runs asked.ReadNext answer row effect = same_runs effect.disk.only.later effect.tables.tables_are
-    effect_runs asked.EndRead answer row effect = same_runs effect.disk.only.later effect.tables.tables_are
-    effect_runs (asked.GcStart percent) answer row effect = same_runs effect.disk.only.later effect.tables.tables_are
     effect_runs asked.GcStep answer row effect = gc_runs answer effect.later row
-    effect_runs asked.Stat answer row effect = same_runs effect.disk.only.later effect.tables.tables_are
-    effect_runs asked.Unique answer row effect = same_runs effect.disk.only.later effect.tables.tables_are
+    effect_runs other answer row effect = same_runs effect.disk.only.later effect.tables.tables_are
 
 module _ (old new : CoreState) (stays : new.stop ≡ None) where
   pub seal_kept : (offered : List Contents) (refusal : Refusal) (count : ℕ) → StopsAfter (asked.Seal offered) (Err refusal) count new.stop → KeepsUnlessBroken refusal old new
@@ -167,20 +158,13 @@ module _ (old new : CoreState) where
   pub under_way_on : (step : StepValue) (actor : ℕ) (answer : Result Answer Refusal) (buf : List ℕ) → Row step actor answer buf old new → Effect step answer old new
       → Collects step answer old new
       → Runs old.disk.size None old.tables → IsUnderWayIn old.tables.held old.collection → IsUnderWayIn new.tables.held new.collection
-  under_way_on asked.Begin actor answer buf row effect collects runs = kept_on effect.tables collects
   under_way_on (asked.Claim seg) actor answer buf row effect collects runs = claimed_on seg answer effect collects
   under_way_on (asked.Seal offered) actor answer buf row effect collects runs = sealed_answer offered actor answer runs row effect collects
   under_way_on (asked.Commit name root) actor answer buf row effect collects runs = unchanged_on (commit_held name root actor answer row effect) collects
-  under_way_on asked.Abort actor answer buf row effect collects runs = kept_on effect.tables collects
-  under_way_on (asked.OpenRead name) actor answer buf row effect collects runs = kept_on effect.tables collects
-  under_way_on asked.ReadNext actor answer buf row effect collects runs = kept_on effect.tables collects
-  under_way_on asked.EndRead actor answer buf row effect collects runs = kept_on effect.tables collects
   under_way_on (asked.Delete name) actor answer buf row effect collects runs = unchanged_on (delete_held name answer row effect) collects
-  under_way_on asked.ListNames actor answer buf row effect collects runs = kept_on effect.tables collects
   under_way_on (asked.GcStart percent) actor answer buf row effect collects runs = begun_on percent answer row effect.tables
   under_way_on asked.GcStep actor answer buf row effect collects runs = effect.under_way
-  under_way_on asked.Stat actor answer buf row effect collects runs = kept_on effect.tables collects
-  under_way_on asked.Unique actor answer buf row effect collects runs = kept_on effect.tables collects
+  under_way_on other actor answer buf row effect collects runs = kept_on effect.tables collects
 
 -- ---- a step
 

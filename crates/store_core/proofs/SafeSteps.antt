@@ -1,7 +1,7 @@
 -- Steps keep what holds of the collection that runs.
 use Rattle.std.specs.FinMap as finite
 use Rattle.gc_steps.proofs.SealedPins.{sealed_safe}
-use Rattle.store_core.proofs.Prelude.{some_same, root_key, ClaimRow, CommitRow, Rests, SealRow, next_id, ChangesTo, Answer, ByteSet, IsIn, Collection, Collects, IsKeptKey, MarksIn, StartRow, HasKey, CoreInvariant, CoreState, IsUnderWayIn, Delete, Put, Filter, Mark, Select, Err, List, None, Ok, Option, Result, Some, ap, arith, refl, subst, true, ℕ, ◌<◌, ◌∙◌, ◌≡◌, ◌⊎◌, suc, inl, inr, sym, length, Idle, Writing, IsAt, IsSafeIn, IsLiveAt, LiveKeys, Marks, IsSafe, IsSafeAt, IsStoreOf, KeepsBoth, KeepsCopies, with_change, KindSegment, segment_key, Part, PinMap, Place, PlaceMap, Refusal, Represents, Runs, Root, Stage, Store, names_of, Stored, Tables, pin_of}
+use Rattle.store_core.proofs.Prelude.{some_same, root_key, ClaimRow, CommitRow, Rests, SealRow, next_id, ChangesTo, Answer, ByteSet, IsIn, Collection, Collects, IsKeptKey, MarksIn, StartRow, HasKey, CoreInvariant, CoreState, IsUnderWayIn, Delete, Put, Mark, Err, List, None, Ok, Option, Result, Some, ap, arith, refl, subst, true, ℕ, ◌<◌, ◌∙◌, ◌≡◌, ◌⊎◌, suc, inl, inr, sym, length, Idle, Writing, IsAt, IsSafeIn, IsLiveAt, LiveKeys, Marks, IsSafe, IsSafeAt, IsStoreOf, KeepsBoth, KeepsCopies, with_change, KindSegment, segment_key, Part, PinMap, Place, PlaceMap, Refusal, Represents, Runs, Root, Stage, Store, names_of, Stored, Tables, pin_of}
 use Rattle.ingest_steps.specs.Offering.{with_pins_of}
 use Rattle.ingest_steps.specs.Writers.{IsStored}
 use Rattle.store_core.specs.Collecting.{keys_in}
@@ -11,7 +11,6 @@ use Rattle.refusals.specs.declared.refusal.Refusal.TheVariants as refusals
 use Rattle.actor_parts.specs.declared.step.Answer.TheVariants as answers
 use Rattle.actor_parts.specs.StepValue as asked
 use Rattle.std.specs.List.{Contains}
-use Rattle.gc_steps.specs.declared.collection.Stage.TheVariants.{Sweep}
 use Rattle.container_meta.specs.Segments.{Contents}
 use Rattle.actor_parts.specs.PinMap.{has_pin}
 use Rattle.gc_steps.proofs.ClaimedPin.{claimed_key}
@@ -48,9 +47,7 @@ module _ (index later : PlaceMap) (s t : Store) (before after : List Part) (old 
   -- by its stage, which stays
   safe_at : (stage : Stage) (c d : Collection) → KeepsBoth index later s t before after old new c d → IsSafeAt stage index s before old c → IsSafeAt stage later t after new d
   safe_at (Mark level slot) c d both = both.0
-  safe_at (Filter slot) c d both = both.1
-  safe_at Select c d both = both.1
-  safe_at Sweep c d both = both.1
+  safe_at other c d both = both.1
 
   -- the collection is the same
   pub unchanged_safe : (was now : Option Collection) → ((c : Collection) → KeepsBoth index later s t before after old new c c) → now ≡ was → IsSafeIn index s before old was

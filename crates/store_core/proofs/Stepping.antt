@@ -127,20 +127,11 @@ module _ (actor : ℕ) (buf : List ℕ) (old new : CoreState) where
 module _ (old new : CoreState) where
   -- it is the same disk, later
   pub effect_later : (step : StepValue) (answer : Result Answer Refusal) → Effect step answer old new → IsLater old.disk new.disk
-  effect_later asked.Begin answer effect = effect.disk.only.later
-  effect_later (asked.Claim seg) answer effect = effect.disk.only.later
   effect_later (asked.Seal offered) answer effect = effect.disk.later
   effect_later (asked.Commit name root) answer effect = effect.disk.later
-  effect_later asked.Abort answer effect = effect.disk.only.later
-  effect_later (asked.OpenRead name) answer effect = effect.disk.only.later
-  effect_later asked.ReadNext answer effect = effect.disk.only.later
-  effect_later asked.EndRead answer effect = effect.disk.only.later
   effect_later (asked.Delete name) answer effect = effect.disk.later
-  effect_later asked.ListNames answer effect = effect.disk.only.later
-  effect_later (asked.GcStart percent) answer effect = effect.disk.only.later
   effect_later asked.GcStep answer effect = effect.later
-  effect_later asked.Stat answer effect = effect.disk.only.later
-  effect_later asked.Unique answer effect = effect.disk.only.later
+  effect_later other answer effect = effect.disk.only.later
 
 module _ (old new : CoreState) (e : Event) where
   pub step_later : (stop : Option Stop) → StepsOr stop e old new → IsLater old.disk new.disk

@@ -1,6 +1,6 @@
 -- While a collection marks, each live key is in the index, and a live node that was passed has live children, whatever the disk holds. So once it
 -- has marked, the index has each key of the trees of all roots.
-use Rattle.gc_steps.proofs.Prelude.{◌≡◌, ◌⊎◌, inl, inr, ℕ, zero, suc, ◌+◌, ◌-◌, ◌<◌, ◌≤◌, Bool, true, false, List, [], ◌∷◌, ◌++◌, length, map, Option, Some, None, refl, sym, ◌∙◌, ap, subst, arith, nat_le, slice_get, bytes_eq, All, AllByRecursion, eqb-true, leb-true, eqb_tells, slice_get-get_or, All-weaker, Contains-get_or, recursion_from_All, bytes_eq-Decides, byte_at, key_of, MOST_LEVEL, Entry, Kind, Leaf, Place, is_level, kind_byte, PlaceMap, HeaderValue, IsHeader, header_digest, LiveKeys, HasLiveChildren, IsAmong, IsLiveOf, IsToScan, Scan, child_keys, among_keys, entry_key, AreHeaders, IsPartialIndexOf, last_id, place_of, lies, some_same, found_so, have_levels, finds, Refusal, Memory, RepresentsSlots, count_of, SlotCount, SlotTable, Collection, Stage, Mark, Filter, Select, RootKey, HasMarkedAll, HeadersAreApart, IsDataKey, is_tree_slot, mark_from, mark_level, AreFound, DiskView, Store, KeepsMarks, MarksOnly, Scans, ScansEntries, ScansSome, scan_for, WasScanned, ShowsAt}
+use Rattle.gc_steps.proofs.Prelude.{◌≡◌, ◌⊎◌, inl, inr, ℕ, zero, suc, ◌+◌, ◌-◌, ◌<◌, ◌≤◌, Bool, true, false, List, [], ◌∷◌, ◌++◌, length, map, Option, Some, None, refl, sym, ◌∙◌, ap, subst, arith, nat_le, slice_get, bytes_eq, All, AllByRecursion, eqb-true, leb-true, eqb_tells, slice_get-get_or, All-weaker, Contains-get_or, recursion_from_All, bytes_eq-Decides, byte_at, key_of, MOST_LEVEL, Entry, Kind, Leaf, Place, is_level, kind_byte, PlaceMap, HeaderValue, IsHeader, header_digest, LiveKeys, HasLiveChildren, IsAmong, IsLiveOf, IsToScan, Scan, child_keys, among_keys, entry_key, AreHeaders, IsPartialIndexOf, last_id, place_of, lies, some_same, found_so, have_levels, finds, Refusal, Memory, RepresentsSlots, count_of, SlotCount, SlotTable, Collection, Stage, Mark, RootKey, HasMarkedAll, HeadersAreApart, IsDataKey, is_tree_slot, mark_from, mark_level, AreFound, DiskView, Store, KeepsMarks, MarksOnly, Scans, ScansEntries, ScansSome, scan_for, WasScanned, ShowsAt}
 use Rattle.std.proofs.Common.{◌&&◌, find, get_or}
 use Rattle.std.specs.FinMap as finite
 use Rattle.std.specs.List.{Contains}
@@ -10,24 +10,15 @@ use Rattle.gc_enumerate.specs.Copies.{IsPlaceOf}
 use Rattle.gc_enumerate.specs.Scanning.{keys_of}
 use Rattle.store_model.specs.Slots.{Copy}
 use Rattle.store_model.proofs.Free.{as_many}
-use Rattle.gc_steps.specs.declared.collection.Stage.TheVariants.{Sweep}
 use Rattle.gc_steps.specs.Finding.{FindsAll, FindsTree, HasAt, HasNode}
-use Rattle.gc_steps.proofs.FirstStage.{id_below, not_first, tree_of, tree_slot}
+use Rattle.gc_steps.proofs.FirstStage.{first_true, id_below, not_first, tree_of, tree_slot, units}
 use Rattle.gc_steps.proofs.NextStage.{scanned_to}
 
 -- ---- what the index has lies in a container
 
-first_true : (a b : Bool) → a && b ≡ true → a ≡ true
-first_true true b e = refl
-first_true false b e = absurd cc
-
 second_true : (a b : Bool) → a && b ≡ true → b ≡ true
 second_true true b e = e
 second_true false b e = absurd cc
-
-none_asked : (entries : List Entry) → AllByRecursion (λ e. Unit {0}) entries
-none_asked [] = tt
-none_asked (e ∷ es) = (tt, none_asked es)
 
 header_right : (held : List (Option HeaderValue)) (slot : ℕ) (h : HeaderValue) → AreHeaders held → slice_get held slot ≡ Some (Some h) → IsHeader h
 header_right [] slot h right there = absurd cc
@@ -48,7 +39,7 @@ placed_at index level key (x ∷ xs) of at placed
     (zero, below, is) = record { place = at x; place_is = ap (finite.get index) (sym is) ∙ placed.0.0 index refl; level_is = placed.0.1 }
 placed_at index level key (x ∷ xs) of at placed (suc k, below, is) = placed_at index level key xs of at placed.1 (k, omega (arith, below), is)
 
-first_ones : {X : Type 0} (of : X → List ℕ) (xs ys : List X) (key : List ℕ) → Contains (map of xs) key → Contains (map of (xs ++ ys)) key
+pub first_ones : {X : Type 0} (of : X → List ℕ) (xs ys : List X) (key : List ℕ) → Contains (map of xs) key → Contains (map of (xs ++ ys)) key
 first_ones of [] ys key (k, below, is) = absurd (omega (arith, below))
 first_ones of (x ∷ xs) ys key (zero, below, is) = (zero, omega arith, is)
 first_ones of (x ∷ xs) ys key (suc k, below, is) = let rest = first_ones of xs ys key (k, omega (arith, below), is) in (suc rest.0, omega (arith, rest.1), rest.2)
@@ -56,9 +47,7 @@ first_ones of (x ∷ xs) ys key (suc k, below, is) = let rest = first_ones of xs
 -- once it has marked, all was scanned
 pub all_passed : (stage : Stage) → HasMarkedAll stage → (level slot : ℕ) → WasScanned stage level slot
 all_passed (Mark at next) marking level slot = absurd marking
-all_passed (Filter at) marked level slot = tt
-all_passed Select marked level slot = tt
-all_passed Sweep marked level slot = tt
+all_passed other marked level slot = tt
 
 -- another P of the children
 node_weaker : (P Q : List ℕ → Type 0) (level : ℕ) (key : List ℕ) → ((k : List ℕ) → P k → Q k) → HasNode P level key → HasNode Q level key
@@ -116,7 +105,7 @@ module _ (index : PlaceMap) (store : Store) (headers : AreHeaders store.held) (p
   pub data_or_node : (key : List ℕ) (place : Place) → Entered key place → IsDataKey key ⊎ (1 ≤ place.level)
   data_or_node key place e = by_kind e.header.kind (entry_right key place e)
       ((bytes_eq-Decides (key_of (kind_byte e.header.kind) e.entry.digest) key).0
-      (found_so (λ (x : Entry). Unit {0}) _ e.header.entries e.entry (none_asked e.header.entries) e.found).1)
+      (found_so (λ (x : Entry). Unit {0}) _ e.header.entries e.entry (units e.header.entries) e.found).1)
     where
       by_kind : (kind : Kind) → is_level kind place.level ≡ true → key_of (kind_byte kind) e.entry.digest ≡ key → IsDataKey key ⊎ (1 ≤ place.level)
       by_kind Leaf is same = inl (ap (byte_at 0) (sym same))

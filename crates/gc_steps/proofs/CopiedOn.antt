@@ -2,7 +2,7 @@
 use Rattle.gc_steps.proofs.Prelude.{◌≡◌, ◌⊎◌, inl, inr, ℕ, ◌<◌, true, List, [], ◌∷◌, map, Option, Some, None, refl, sym, ◌∙◌, ap, subst, slice_get, AllByRecursion, Kind, Place, PlaceMap, Segment, has_key, segment_key, HeaderValue, PlansBy, Plan, source_of, Shows, DiskView, shown_content, LiveKeys, DifferentIds, HoldSlots, HoldsSlot, IsPartialIndexOf, RepresentsSlots, SlotTable, Tables, Next, CopyNext, Flush, Release, End, SweepValue, CopiesSource, TakesBy, HoldsSweep, IsCopied, IsLive, IsSweeping, no_key, LeavesHeld, holds_copied, listed_so, filled_new, IsReadOf, not_other, read_of, Collection, Stage, Mark, Filter, Select, StepsTo, moment, HoldsAt, IsUnderWay}
 use Rattle.std.specs.FinMap as finite
 use Rattle.container_meta.specs.Segments.{Contents, keys_of}
-use Rattle.gc_sweep.specs.Copying.{EndsBy, copy_step}
+use Rattle.gc_sweep.specs.Copying.{copy_step}
 use Rattle.gc_steps.specs.declared.collection.Stage.TheVariants.{Sweep}
 use Rattle.gc_steps.proofs.UnderWay.{at_stage}
 

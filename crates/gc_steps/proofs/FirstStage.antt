@@ -57,11 +57,12 @@ pub record HasTree (held : List (Option HeaderValue)) (slot id : ℕ) : Type 0 w
   pub some : 1 ≤ id
   pub tree_is : is_tree (slice_get (map count_of held) slot) ≡ true
 
-units : (entries : List Entry) → AllByRecursion (λ e. Unit {0}) entries
+pub units : (entries : List Entry) → AllByRecursion (λ e. Unit {0}) entries
 units [] = tt
 units (e ∷ es) = (tt, units es)
 
-count_there : (held : List (Option HeaderValue)) (slot : ℕ) (h : HeaderValue) → slice_get held slot ≡ Some (Some h) → slice_get (map count_of held) slot ≡ Some (count_of (Some h))
+pub count_there : (held : List (Option HeaderValue)) (slot : ℕ) (h : HeaderValue) → slice_get held slot ≡ Some (Some h)
+    → slice_get (map count_of held) slot ≡ Some (count_of (Some h))
 count_there [] slot h there = absurd cc
 count_there (c ∷ cs) zero h there = ap (λ (x : Option HeaderValue). Some (count_of x)) (some_same c (Some h) there)
 count_there (c ∷ cs) (suc slot) h there = count_there cs slot h there
@@ -73,7 +74,7 @@ id_there (Some g ∷ cs) zero h there = ap (λ (x : HeaderValue). x.id) (some_sa
 id_there (None ∷ cs) (suc slot) h there = id_there cs slot h there
 id_there (Some g ∷ cs) (suc slot) h there = id_there cs slot h there
 
-first_true : (a b : Bool) → a && b ≡ true → a ≡ true
+pub first_true : (a b : Bool) → a && b ≡ true → a ≡ true
 first_true true b e = refl
 first_true false b e = absurd cc
 

@@ -1,19 +1,18 @@
 -- While a collection marks, whatever others do and whatever the disk holds, each live key that the index has is that of data, or of a node whose
 -- children are so, too, or of a node that marking has yet to come to. So once it has marked, the index has each key of the trees of all roots.
-use Rattle.gc_steps.proofs.Prelude.{◌≡◌, ◌⊎◌, inl, inr, ℕ, zero, suc, ◌-◌, ◌<◌, ◌≤◌, true, List, [], ◌∷◌, ◌++◌, map, Option, Some, refl, sym, ◌∙◌, ap, subst, arith, slice_get, All, AllByRecursion, eqb_tells, leb_tells, All-contains, All-weaker, Contains-get_or, Part, Writing, PinMap, has_pin, IsOfKind, child_pin, children_by, key_of, Kind, Leaf, Place, PlaceMap, Segment, segment_key, HeaderValue, header_digest, DiskView, MOST_LEVEL, LiveKeys, IsAmong, child_key, child_keys, among_keys, IsLive, Child, contents_in, sha256, NameMap, Refusal, Memory, Store, AreHeaders, HasKey, IsPartialIndexOf, last_id, some_same, RepresentsSlots, SlotCount, SlotTable, Collection, Stage, Mark, Filter, Select, RootKey, HasMarkedAll, HeadersAreApart, IsDataKey, KeepsMarks, MarksOnly, Scans, WasScanned, IsPartKey, IsRoot, Marks, key_at, roots_of, mark_level, AreFound}
+use Rattle.gc_steps.proofs.Prelude.{All, All-contains, All-weaker, AllByRecursion, AreFound, AreHeaders, Child, Collection, Contains-get_or, DiskView, Filter, HasKey, HasMarkedAll, HeaderValue, HeadersAreApart, IsAmong, IsDataKey, IsLive, IsOfKind, IsPartKey, IsPartialIndexOf, IsRoot, KeepsMarks, Kind, Leaf, List, LiveKeys, MOST_LEVEL, Mark, Marks, MarksOnly, Memory, NameMap, Option, Part, PinMap, Place, PlaceMap, Refusal, RepresentsSlots, RootKey, Scans, Segment, SlotCount, SlotTable, Some, Stage, Store, WasScanned, Writing, [], among_keys, ap, arith, child_key, child_keys, child_pin, children_by, contents_in, eqb_tells, has_pin, header_digest, inl, inr, key_at, key_of, last_id, leb_tells, map, mark_level, refl, roots_of, segment_key, sha256, slice_get, some_same, subst, suc, sym, true, zero, ℕ, ◌++◌, ◌-◌, ◌<◌, ◌∙◌, ◌∷◌, ◌≡◌, ◌≤◌, ◌⊎◌}
 use Rattle.std.proofs.Common.{◌↔◌, get_or}
 use Rattle.std.specs.FinMap as finite
 use Rattle.std.proofs.lemmas.List.Elements.{All-append, All-map}
 use Rattle.container_meta.specs.declared.kind.Kind.TheVariants.{Tree}
 use Rattle.gc_enumerate.specs.Live.{IsLiveAt}
-use Rattle.gc_steps.specs.declared.collection.Stage.TheVariants.{Sweep}
 use Rattle.gc_steps.specs.Finding.{FindsTrees, HasChildren}
 use Rattle.gc_steps.specs.Roots.{RootKeys}
 use Rattle.gc_steps.proofs.AllFound.{Entered, HasLive, all_passed, below_it, data_or_node, entered, grows, node_here, none_yet, not_later, passed, some_among, some_grows, tabled_held}
 use Rattle.gc_steps.proofs.FirstStage.{id_below}
-use Rattle.gc_steps.proofs.GainedPins.{live_anywhere}
 use Rattle.gc_steps.proofs.PinnedTrees.{pin_found}
 use Rattle.gc_steps.proofs.RootKeys.{root_live, roots_have}
+use Rattle.gc_sweep.proofs.InSlots.{live_anywhere}
 
 -- ---- what is so while it marks
 
@@ -55,8 +54,7 @@ scanned_or_not (Mark at next) level slot = elim (leb_tells (suc at) level) [
   ]
 ]
 scanned_or_not (Filter at) level slot = inl tt
-scanned_or_not Select level slot = inl tt
-scanned_or_not Sweep level slot = inl tt
+scanned_or_not other level slot = inl tt
 
 module _ (index : PlaceMap) (store : Store) (headers : AreHeaders store.held) (partial : IsPartialIndexOf store.held index) where
   -- ---- it begins

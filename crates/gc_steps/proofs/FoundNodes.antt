@@ -1,6 +1,5 @@
 -- The nodes that a scan of a container found, on a disk whose content is known: just the live nodes of the level whose newest copies lie in it.
-use Rattle.gc_steps.proofs.Prelude.{◌≡◌, ◌⊎◌, inl, inr, ℕ, ◌-◌, ◌<◌, ◌≤◌, true, List, [], ◌∷◌, length, Option, Some, None, refl, sym, ◌∙◌, ap, subst, arith, slice_get, All, AllByRecursion, flat_map, eqb-true, All-weaker, Contains-append_cases, recursion_from_All, slice_get-get_or, bytes_eq-Decides, key_of, Entry, Kind, Leaf, Place, is_level, kind_byte, PlaceMap, HeaderValue, DiskView, shown_content, LiveKeys, HasLiveChildren, IsLiveOf, HaveNodes, IsToScan, Scan, child_keys, node_digest, Files, Store, entry_key, HoldSlots, HoldsSlot, IsPartialIndexOf, newest, place_of, IsStoreOf, bytes_at, node_key, lies, some_same, slot_held, found_so, newest_so, nodes_so, IsNodeEntry, finds, one_spelling, IsLive, HoldsNode, NewAreLive, scan_for, ShowsAt}
-use Rattle.std.proofs.Common.{get_or}
+use Rattle.gc_steps.proofs.Prelude.{◌≡◌, ◌⊎◌, inl, inr, ℕ, ◌-◌, ◌≤◌, true, List, [], ◌∷◌, Option, Some, None, refl, sym, ◌∙◌, ap, subst, arith, slice_get, All, AllByRecursion, flat_map, eqb-true, All-weaker, Contains-append_cases, recursion_from_All, slice_get-get_or, bytes_eq-Decides, key_of, Entry, Kind, Leaf, Place, is_level, kind_byte, PlaceMap, HeaderValue, DiskView, shown_content, LiveKeys, HasLiveChildren, IsLiveOf, HaveNodes, IsToScan, Scan, child_keys, node_digest, Files, Store, entry_key, IsPartialIndexOf, newest, place_of, IsStoreOf, bytes_at, node_key, lies, some_same, found_so, newest_so, nodes_so, IsNodeEntry, finds, one_spelling, IsLive, HoldsNode, NewAreLive, scan_for, ShowsAt}
 use Rattle.std.specs.FinMap as finite
 use Rattle.std.specs.List.{Contains}
 use Rattle.container_meta.specs.declared.kind.Kind.TheVariants.{Tree}
@@ -9,17 +8,9 @@ use Rattle.gc_enumerate.specs.Scanning.{IsNodeOf}
 use Rattle.merkle_file.specs.Node.{Contents, spelling}
 use Rattle.store_model.specs.Slots.{Copy}
 use Rattle.store_model.proofs.Copies.{LiesIn}
-use Rattle.store_model.proofs.Once.{slot_once}
 use Rattle.gc_steps.proofs.Marked.{contains_none}
 
 -- ---- the header of a slot
-
--- the header that the image has in a slot is the store's
-pub header_held : (held : List (Option HeaderValue)) (image : List ℕ) (slot : ℕ) (h : HeaderValue) → HoldSlots 0 held image → slot < length held → HoldsSlot image slot (Some h)
-    → slice_get held slot ≡ Some (Some h)
-header_held held image slot h holds within shown =
-    let there : slice_get held slot ≡ Some (get_or held slot None) = slice_get-get_or held slot None within in
-    there ∙ ap Some (slot_once slot (get_or held slot None) (Some h) image (slot_held slot held (get_or held slot None) image holds there) shown)
 
 -- where a newest copy lies, the slot has its header
 pub lies_there : (held : List (Option HeaderValue)) (key : List ℕ) (copy : Copy) (l : LiesIn 0 held key copy) → slice_get held copy.place.slot ≡ Some (Some l.header)
@@ -75,7 +66,7 @@ pub record IsLiveNode (index : PlaceMap) (live : LiveKeys) (held : List (Option 
   pub level_is : n.level ≡ level
 
 -- an entry of a level above that of data is of a tree
-tree_kind : (kind : Kind) (level : ℕ) → 1 ≤ level → is_level kind level ≡ true → kind ≡ Tree
+pub tree_kind : (kind : Kind) (level : ℕ) → 1 ≤ level → is_level kind level ≡ true → kind ≡ Tree
 tree_kind Leaf level some is = let zero_level : level ≡ 0 = eqb-true level 0 is in absurd (omega (arith, some, zero_level))
 tree_kind Tree level some is = refl
 

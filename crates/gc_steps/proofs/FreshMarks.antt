@@ -1,22 +1,18 @@
 -- Keys that become live while a collection runs, and those of them that were not.
-use Rattle.gc_steps.proofs.Prelude.{◌≡◌, ◌⊎◌, ◌<◌, ◌≤◌, ◌+◌, inl, inr, ℕ, Bool, true, false, List, [], ◌∷◌, ◌++◌, length, take, is_some, Result, Ok, Err, OnOk, refl, sym, ◌∙◌, subst, take_all, take_more, Contains-append_left, Place, LiveKeys, HasMarked, IsAsLive, Unmarks, Marks}
-use Rattle.std.proofs.Common.{◌↔◌, get_or, OnErr}
+use Rattle.gc_steps.proofs.Prelude.{◌≡◌, ◌⊎◌, ◌<◌, ◌≤◌, ◌+◌, inl, inr, ℕ, Bool, true, false, List, [], ◌∷◌, ◌++◌, length, take, is_some, refl, sym, ◌∙◌, subst, take_all, take_more, Contains-append_left, Place, LiveKeys, HasMarked, IsAsLive, Unmarks, Marks}
+use Rattle.std.proofs.Common.{◌↔◌, get_or}
 use Rattle.std.specs.FinMap as finite
 use Rattle.std.specs.List.{Contains}
 use Rattle.gc_enumerate.specs.Live.{IsLiveAt}
 use Rattle.gc_steps.specs.Fresh.{AreFresh}
 use Rattle.gc_steps.proofs.Marked.{contains_more, contains_none, keys_turn, marks_none}
+use Rattle.gc_sweep.proofs.InSlots.{live_anywhere}
 
 -- ---- marks of keys
 
--- a key that is live is so at any place
-pub live_any : (live : LiveKeys) (key : List ℕ) (here there : Place) → IsLiveAt live key here → IsLiveAt live key there
-unfolding IsLiveAt
-live_any live key here there is = is
-
 -- one that is the same is live, too
 live_same : (live : LiveKeys) (key other : List ℕ) (here there : Place) → other ≡ key → IsLiveAt live key here → IsLiveAt live other there
-live_same live key other here there same is = live_any live other here there (subst (λ (k : List ℕ). IsLiveAt live k here) (sym same) is)
+live_same live key other here there same is = live_anywhere live other here there (subst (λ (k : List ℕ). IsLiveAt live k here) (sym same) is)
 
 -- a key is live, or not
 pub live_or : (live : LiveKeys) (key : List ℕ) (place : Place) → IsLiveAt live key place ⊎ (IsLiveAt live key place → ⊥)
@@ -36,14 +32,6 @@ marked_already live key here is other there = (λ was. inl was, λ one. by_case 
     by_case (inr same) = live_same live key other here there same is
 
 -- ---- what holds after an Ok, or an Err
-
-pub on_ok : {T E : Type 0} (result : Result T E) (P : Type 0) → P → OnOk result P
-on_ok (Ok x) P holds = holds
-on_ok (Err e) P holds = tt
-
-pub on_err : {T E : Type 0} (result : Result T E) (P : Type 0) → P → OnErr result P
-on_err (Ok x) P holds = tt
-on_err (Err e) P holds = holds
 
 -- ---- one key after the other
 

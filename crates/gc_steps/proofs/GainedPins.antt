@@ -1,5 +1,5 @@
 -- An actor's pins grow, and the live keys by the same keys: both invariants of a collection stay.
-use Rattle.gc_steps.proofs.Prelude.{◌≡◌, ◌⊎◌, ◌<◌, inl, inr, ℕ, zero, suc, true, List, [], ◌∷◌, length, map, Some, sym, ◌∙◌, ap, subst, arith, slice_get, All, AllByRecursion, sha256, ACTORS, Part, Writing, PinMap, has_pin, IsOfKind, child_pin, children_by, Kind, Leaf, Place, PlaceMap, Segment, segment_key, HeaderValue, LiveKeys, child_key, child_keys, Child, IsNode, node_digest, contents_in, NameMap, Files, Store, names_of, entry_key, HasKey, newest, IsStoreOf, KeepsCopies, bytes_at, node_key, some_same, same_kind, ArePinsOf, CoreInvariant, HoldsPart, Collection, IsLive, IsPartKey, IsRoot, Marks}
+use Rattle.gc_steps.proofs.Prelude.{◌≡◌, ◌⊎◌, ◌<◌, inl, inr, ℕ, zero, suc, true, List, [], ◌∷◌, length, map, Some, sym, ◌∙◌, ap, subst, arith, slice_get, All, AllByRecursion, sha256, ACTORS, Part, Writing, PinMap, has_pin, IsOfKind, child_pin, children_by, Kind, Leaf, PlaceMap, Segment, segment_key, HeaderValue, LiveKeys, child_key, child_keys, Child, IsNode, node_digest, contents_in, NameMap, Files, Store, names_of, entry_key, HasKey, newest, IsStoreOf, KeepsCopies, bytes_at, node_key, some_same, same_kind, ArePinsOf, CoreInvariant, HoldsPart, Collection, IsLive, IsPartKey, IsRoot, Marks}
 use Rattle.std.proofs.Common.{◌↔◌}
 use Rattle.std.specs.Prelude.{get_or}
 use Rattle.std.specs.FinMap as finite
@@ -14,11 +14,7 @@ use Rattle.gc_steps.proofs.Carried.{Carries, IsGrown, KeepsBoth, MovesBeside, ca
 use Rattle.gc_steps.proofs.PinnedTrees.{pin_found, pinned_whole}
 use Rattle.gc_steps.proofs.RootsAfter.{part_root}
 use Rattle.gc_steps.proofs.Started.{part_holds}
-
--- a key that is live at one place is at any
-pub live_anywhere : (live : LiveKeys) (key : List ℕ) (place other : Place) → IsLiveAt live key place → IsLiveAt live key other
-unfolding IsLiveAt
-live_anywhere live key place other is = is
+use Rattle.gc_sweep.proofs.InSlots.{live_anywhere}
 
 -- ---- what is pinned is held whole, and its children are pinned
 

@@ -1,11 +1,11 @@
 -- The key of the root of a name, and the name that it is of.
 use Rattle.gc_steps.proofs.Prelude.{◌≡◌, ℕ, Bool, true, false, cond, List, [], ◌∷◌, map, Some, None, inl, inr, refl, sym, ◌∙◌, ap, nat_cmp, eq_by_cmp, slice_cmp, AllByRecursion, bytes_eq-Decides, Named, NamedRoot, listing_of, named_root, NameMap, tied, HasRootKey, IsListedKey, IsNameKey}
-use Rattle.std.proofs.Common.{◌&&◌}
 use Rattle.std.specs.Prelude.{T}
 use Rattle.std.specs.Ordering.{is_lt, is_eq}
 use Rattle.std.specs.FinMap as finite
 use Rattle.std.specs.FinMap.Entries.{below_all}
 use Rattle.std.proofs.Common.{Ordering, Less, Equal, Greater}
+use Rattle.namespace.proofs.Again.{first, second}
 
 -- a name with a root of that key
 pub record HasName (names : NameMap) (key : List ℕ) : Type 0 where
@@ -16,14 +16,6 @@ pub record HasName (names : NameMap) (key : List ℕ) : Type 0 where
 
 -- ---- sorted entries
 
-head_of : (a b : Bool) → T (a && b) → T a
-head_of true b p = tt
-head_of false b p = p
-
-tail_of : (a b : Bool) → T (a && b) → T b
-tail_of true b p = p
-tail_of false b p = absurd p
-
 not_equal : (o : Ordering) → T (is_lt o) → is_eq o ≡ false
 not_equal Less less = refl
 not_equal Equal less = absurd less
@@ -33,8 +25,8 @@ not_equal Greater less = absurd less
 none_below : (key : List ℕ) (es : List (List ℕ × Named)) → T (below_all (slice_cmp nat_cmp) key es) → finite.find (slice_cmp nat_cmp) key es ≡ None
 none_below key [] below = refl
 none_below key (e ∷ es) below =
-    ap (λ (b : Bool). cond b (Some e.1) (finite.find (slice_cmp nat_cmp) key es)) (not_equal (slice_cmp nat_cmp key e.0) (head_of _ (below_all (slice_cmp nat_cmp) key es) below))
-    ∙ none_below key es (tail_of (is_lt (slice_cmp nat_cmp key e.0)) _ below)
+    ap (λ (b : Bool). cond b (Some e.1) (finite.find (slice_cmp nat_cmp) key es)) (not_equal (slice_cmp nat_cmp key e.0) (first _ (below_all (slice_cmp nat_cmp) key es) below))
+    ∙ none_below key es (second (is_lt (slice_cmp nat_cmp key e.0)) _ below)
 
 -- the first is found by its name
 first_found : (e : List ℕ × Named) (es : List (List ℕ × Named)) → finite.find (slice_cmp nat_cmp) e.0 (e ∷ es) ≡ Some e.1
@@ -64,11 +56,11 @@ listed_by : (es : List (List ℕ × Named)) (key : List ℕ) → T (finite.is_so
 listed_by [] key sorted is = absurd is
 listed_by (e ∷ es) key sorted (inl has) = record { name = e.0; named = e.1; found = first_found e es; has = has }
 listed_by (e ∷ es) key sorted (inr later) =
-    let rest = listed_by es key (tail_of (below_all (slice_cmp nat_cmp) e.0 es) _ sorted) later in
+    let rest = listed_by es key (second (below_all (slice_cmp nat_cmp) e.0 es) _ sorted) later in
     record {
       name = rest.name;
       named = rest.named;
-      found = rest_found e es rest.name rest.named (head_of _ (finite.is_sorted (slice_cmp nat_cmp) es) sorted) rest.found;
+      found = rest_found e es rest.name rest.named (first _ (finite.is_sorted (slice_cmp nat_cmp) es) sorted) rest.found;
       has = rest.has;
     }
 
@@ -78,8 +70,8 @@ pub each_listed : (P : NamedRoot → Type 0) (es : List (List ℕ × Named)) →
 each_listed P [] sorted all = tt
 each_listed P (e ∷ es) sorted all = (
   all e.0 e.1 (first_found e es),
-  each_listed P es (tail_of (below_all (slice_cmp nat_cmp) e.0 es) _ sorted)
-      (λ name named found. all name named (rest_found e es name named (head_of _ (finite.is_sorted (slice_cmp nat_cmp) es) sorted) found)),
+  each_listed P es (second (below_all (slice_cmp nat_cmp) e.0 es) _ sorted)
+      (λ name named found. all name named (rest_found e es name named (first _ (finite.is_sorted (slice_cmp nat_cmp) es) sorted) found)),
 )
 
 -- ---- names

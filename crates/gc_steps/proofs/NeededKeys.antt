@@ -15,7 +15,7 @@ use Rattle.gc_steps.proofs.RootTrees.{not_zero, top_key, top_of}
 
 -- ---- the root of a tree that has keys
 
-some_total : (level : ℕ) (cs : List Child) → 1 ≤ length cs → AllByRecursion (IsChild level) cs → 1 ≤ total cs
+pub some_total : (level : ℕ) (cs : List Child) → 1 ≤ length cs → AllByRecursion (IsChild level) cs → 1 ≤ total cs
 some_total level [] some each = absurd (omega (arith, some))
 some_total level (c ∷ cs) some each = let sum : total (c ∷ cs) ≡ c.length + total cs = sum_by-cons (λ (x : Child). x.length) c cs in omega (arith, each.0.some, sum)
 

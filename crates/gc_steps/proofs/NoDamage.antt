@@ -1,6 +1,6 @@
 -- The next step of a collection finds no damage and misses nothing, where the content of the disk stands for files.
-use Rattle.gc_steps.proofs.Prelude.{slot_at, length, ◌≡◌, ◌≢◌, ◌≤◌, inl, inr, ℕ, zero, suc, Bool, true, false, List, [], ◌∷◌, ◌++◌, Option, Some, None, refl, sym, ◌∙◌, ap, subst, arith, if◌then◌else◌, slice_get, eq-eqb, eqb-true, All-contains, All-from_recursion, Contains-append_right, sha256, Part, byte_at, key_of, Entry, Kind, Leaf, Place, is_level, kind_byte, PlaceMap, HeaderValue, IsHeader, Shows, DiskView, shown_content, Why, IsToScan, Scan, ScanFault, IsNode, Refusal, Corrupt, Damaged, Missing, Numbers, Files, Store, entry_key, HoldsSlot, IsPartialIndexOf, newest, place_of, IsStoreOf, bytes_at, slot_held, IsNodeEntry, have_levels, newest_so, nodes_so, finds, Represents, RepresentsSlots, SlotTable, Tables, Collection, Stage, Next, IsFlushStepRefusal, IsEntriesFault, IsMarkRefusal, scan_for, MarksAreClosed, ShowsAt, step_refusal, is_old, is_old_slot, IsStepRefusal, moment, HasStage, IsUnderWay}
-use Rattle.std.proofs.Common.{◌&&◌, get_or}
+use Rattle.gc_steps.proofs.Prelude.{slot_at, length, ◌≡◌, ◌≢◌, ◌≤◌, inl, inr, ℕ, zero, suc, Bool, true, List, [], ◌∷◌, Option, Some, None, refl, sym, ◌∙◌, ap, subst, arith, if◌then◌else◌, slice_get, eq-eqb, All-contains, All-from_recursion, sha256, Part, byte_at, key_of, Entry, Kind, Place, is_level, kind_byte, PlaceMap, HeaderValue, IsHeader, Shows, DiskView, shown_content, Why, IsToScan, Scan, ScanFault, IsNode, Refusal, Corrupt, Damaged, Missing, Numbers, Files, Store, entry_key, HoldsSlot, IsPartialIndexOf, newest, place_of, IsStoreOf, bytes_at, slot_held, IsNodeEntry, have_levels, newest_so, nodes_so, finds, Represents, RepresentsSlots, SlotTable, Tables, Collection, Stage, Next, IsFlushStepRefusal, IsEntriesFault, IsMarkRefusal, scan_for, MarksAreClosed, ShowsAt, step_refusal, is_old, is_old_slot, IsStepRefusal, moment, HasStage, IsUnderWay}
+use Rattle.std.proofs.Common.{get_or}
 use Rattle.std.specs.List.{Contains}
 use Rattle.base_model.specs.Bytes.{range}
 use Rattle.container_log.specs.Faults.{IsDamage}
@@ -25,7 +25,9 @@ use Rattle.gc_sweep.specs.declared.sweep.Next.TheVariants as nexts
 use Rattle.gc_sweep.proofs.CopyFailures.{IsFailure, copying_fails, flushing_fails}
 use Rattle.gc_sweep.proofs.InSlots.{old_id}
 use Rattle.gc_steps.specs.Filtering.{IsRecordRefusal}
-use Rattle.gc_steps.proofs.NoneMissing.{never_missing, not_misplaced}
+use Rattle.gc_steps.proofs.NoneMissing.{between, never_missing, not_misplaced}
+use Rattle.gc_steps.proofs.FirstStage.{first_true}
+use Rattle.gc_steps.proofs.FoundNodes.{tree_kind}
 
 -- a refusal tells of no damage, and of nothing that is missing
 abbrev pub IsClean : Refusal → Type 0
@@ -71,10 +73,6 @@ header_there (Some h ∷ cs) zero some = record { header = h; there = refl }
 header_there (None ∷ cs) (suc slot) some = let rest = header_there cs slot some in record { header = rest.header; there = rest.there }
 header_there (Some h ∷ cs) (suc slot) some = let rest = header_there cs slot some in record { header = rest.header; there = rest.there }
 
-first_true : (a b : Bool) → a && b ≡ true → a ≡ true
-first_true true b e = refl
-first_true false b e = absurd cc
-
 -- ---- bytes that spell a node have no wrong field
 
 first_byte : (n : Contents) → byte_at 0 (spelling n) ≡ n.level
@@ -93,15 +91,6 @@ faultless level bytes (Field offset got) node wrong_is =
     let none : node_fault level bytes ≡ None =
     ap (node_fault level) node.spelled ∙ subst (λ (l : ℕ). node_fault l (spelling node.node) ≡ None) node.level_is (no_fault node.node node.right) in
     absurd (let both = sym none ∙ wrong_is in cc)
-
--- a list has what stands between two parts of it
-between : {X : Type 0} (xs : List X) (x : X) (ys : List X) → Contains (xs ++ x ∷ ys) x
-between xs x ys = Contains-append_right xs (x ∷ ys) x (0, omega arith, refl)
-
--- an entry of a level above that of data is of a tree
-tree_kind : (kind : Kind) (level : ℕ) → 1 ≤ level → is_level kind level ≡ true → kind ≡ Tree
-tree_kind Leaf level some is = let zero_level : level ≡ 0 = eqb-true level 0 is in absurd (omega (arith, some, zero_level))
-tree_kind Tree level some is = refl
 
 module _ (index : PlaceMap) (store : Store) (files : Files) (image : List ℕ) (holds : IsStoreOf store files image) (partial : IsPartialIndexOf store.held index)
     (old new : DiskView)

@@ -53,11 +53,8 @@ module _ (index : PlaceMap) (store : Store) (files : Files) (parts : List Part) 
 
   not_stopped : (key : List ℕ) (h : HeaderValue) (fault : ScanFault) → Missing key ≡ step_refusal fault → IsHeader h
       → IsEntriesFault (Some index) old new slot level h before.live fault → ⊥
-  not_stopped key h faults.Memory is right cause = absurd cc
-  not_stopped key h faults.DiskRead is right cause = absurd cc
-  not_stopped key h (faults.Damaged at why) is right cause = absurd cc
-  not_stopped key h (faults.Corrupt at offset count want got) is right cause = absurd cc
   not_stopped key h (faults.Missing k) is right cause = not_stuck h k right cause
+  not_stopped key h other is right cause = absurd cc
 
   -- no scan is refused by a child that the index lacks
   none_missing : (t : SlotTable) (key : List ℕ) → IsMarkRefusal t (Some index) old new level slot before.live (Missing key) → ⊥

@@ -1,6 +1,5 @@
 -- What is pinned is held whole: from the pinned nodes down to the data.
-use Rattle.gc_steps.proofs.Prelude.{◌≡◌, ◌≤◌, ℕ, zero, suc, ◌+◌, Bool, true, false, List, [], ◌∷◌, length, map, Option, Some, None, refl, sym, ◌∙◌, ap, subst, arith, AllByRecursion, eqb-true, Contains-append_cases, sha256, key_of, Pin, PinMap, has_pin, IsOfKind, child_pin, children_by, Kind, Leaf, kind_byte, Place, PlaceMap, Segment, segment_key, HeaderValue, Child, IsNode, node_digest, total, contents_in, Trees, child_of, children_of, level_of, of_segment, AreBelow, contents_of, Files, Store, keys_below, tree_keys, HasKey, IsPartialIndexOf, newest, IsStoreOf, HasNewest, HoldsTrees, leaf_key, node_key, headers_of_right, newest_so, ArePinsOf, IsRootOf, IsWhole}
-use Rattle.std.proofs.Common.{◌&&◌}
+use Rattle.gc_steps.proofs.Prelude.{◌≡◌, ◌≤◌, ℕ, zero, suc, ◌+◌, true, List, [], ◌∷◌, length, map, Option, Some, None, refl, sym, ◌∙◌, ap, subst, arith, AllByRecursion, eqb-true, Contains-append_cases, sha256, key_of, Pin, PinMap, has_pin, IsOfKind, child_pin, children_by, Kind, Leaf, kind_byte, Place, PlaceMap, Segment, segment_key, HeaderValue, Child, IsNode, node_digest, total, contents_in, Trees, child_of, children_of, level_of, of_segment, AreBelow, contents_of, Files, Store, keys_below, tree_keys, HasKey, IsPartialIndexOf, newest, IsStoreOf, HasNewest, HoldsTrees, leaf_key, node_key, headers_of_right, newest_so, ArePinsOf, IsRootOf, IsWhole}
 use Rattle.std.specs.Prelude.{◌==◌}
 use Rattle.std.specs.FinMap as finite
 use Rattle.std.specs.List.{Contains}
@@ -16,12 +15,9 @@ use Rattle.store_model.proofs.Roots.{length_of_copy}
 use Rattle.store_model.proofs.TreeKeys.{at_head, either_part, none_there}
 use Rattle.store_state.specs.Invariant.{HoldsPin}
 use Rattle.gc_steps.proofs.Levels.{whole_level}
+use Rattle.base_model.proofs.Checks.{both}
 
 -- ---- pins and children
-
-both_true : (a b : Bool) → a && b ≡ true → (a ≡ true) × (b ≡ true)
-both_true true b e = (refl, e)
-both_true false b e = absurd cc
 
 same_pin : (a b c d : ℕ) → a ≡ c → b ≡ d → (let p : Pin = record { level = a; length = b } in p) ≡ record { level = c; length = d }
 same_pin a b c d first second = cc
@@ -38,8 +34,8 @@ same_children c d cs ds first second = cc
 pub pin_found : (pin : Pin) (found : Option Pin) → is_pin pin found ≡ true → found ≡ Some pin
 pin_found pin None is = absurd cc
 pin_found pin (Some other) is =
-    let both = both_true (other.level == pin.level) (other.length == pin.length) is in
-    ap Some (same_pin other.level other.length pin.level pin.length (eqb-true other.level pin.level both.0) (eqb-true other.length pin.length both.1))
+    let parts = both (other.level == pin.level) (other.length == pin.length) is in
+    ap Some (same_pin other.level other.length pin.level pin.length (eqb-true other.level pin.level parts.0) (eqb-true other.length pin.length parts.1))
 
 -- a key says the digest of the tree whose root it is of
 digest_of_root : (t : tree.Tree (List ℕ)) (kind : Kind) (digest : List ℕ) → IsRootOf (key_of (kind_byte kind) digest) t → (child_of of_segment t).digest ≡ digest

@@ -1,20 +1,16 @@
 -- What an actor needs that takes a file: the tree of the root that it has.
-use Rattle.gc_steps.proofs.Prelude.{◌≡◌, ◌≤◌, ℕ, Bool, false, List, [], ◌∷◌, length, Option, refl, ◌∙◌, ap, arith, if◌then◌else◌, AllByRecursion, sum_by-cons, Reader, key_of, HeaderValue, Root, Child, Top, IsChild, node_digest, total, children_of, of_segment, IsTree, contents_of, trees_in, root_key, tree_keys, HoldsTree, HoldsRest, IsRootOf, HasRootKey}
+use Rattle.gc_steps.proofs.Prelude.{◌≡◌, ℕ, Bool, false, List, [], length, Option, refl, ◌∙◌, ap, arith, if◌then◌else◌, AllByRecursion, Reader, key_of, HeaderValue, Root, Top, node_digest, children_of, of_segment, IsTree, contents_of, trees_in, root_key, tree_keys, HoldsTree, HoldsRest, IsRootOf, HasRootKey}
 use Rattle.std.specs.Prelude.{◌==◌}
 use Rattle.std.specs.List.{Contains}
 use Rattle.std.proofs.lemmas.Bool.{ne_eqb}
 use Rattle.merkle_file.specs.Tree as tree
 use Rattle.merkle_file.specs.Tree.{Tree}
 use Rattle.gc_steps.proofs.Marked.{contains_none}
+use Rattle.gc_steps.proofs.NeededKeys.{some_total}
 
 -- the key that a root has
 abbrev top_key : Top → List ℕ
 top_key top = key_of (if top.level == 0 then 0 else 1) top.digest
-
--- some bytes lie below the children of a node
-some_total : (level : ℕ) (cs : List Child) → 1 ≤ length cs → AllByRecursion (IsChild level) cs → 1 ≤ total cs
-some_total level [] some all = absurd (omega (arith, some))
-some_total level (c ∷ cs) some all = omega (arith, all.0.some, sum_by-cons (λ (x : Child). x.length) c cs)
 
 -- a tree that has a key isn't empty, and is that of its root's key
 pub tree_root : (t : Tree (List ℕ)) (root : Root) (key : List ℕ) → AllByRecursion IsTree (trees_in t)

@@ -1,17 +1,12 @@
 -- What a collection records of a container: its id, its kind, all its bytes, and the sum of its live copies.
-use Rattle.gc_steps.proofs.Prelude.{◌≡◌, ℕ, zero, suc, ◌<◌, List, [], ◌∷◌, length, map, Option, Some, None, refl, sym, ◌∙◌, ap, subst, arith, slice_get, PlaceMap, HeaderValue, bytes_of, SumsLive, DiskView, shown_content, LiveKeys, ContainerLiveness, id_at, header_in, Store, Files, HoldsSlot, IsStoreOf, some_same, Represents, RepresentsSlots, count_of, SlotCount, Tables, Collection, Records, recorded, recorded_by}
+use Rattle.gc_steps.proofs.Prelude.{◌≡◌, ℕ, ◌<◌, List, [], length, Option, Some, None, refl, sym, ◌∙◌, ap, subst, arith, slice_get, PlaceMap, HeaderValue, bytes_of, SumsLive, DiskView, shown_content, LiveKeys, ContainerLiveness, id_at, header_in, Store, Files, HoldsSlot, IsStoreOf, Represents, RepresentsSlots, count_of, SlotCount, Tables, Collection, Records, recorded, recorded_by}
+use Rattle.gc_steps.proofs.FirstStage.{count_there}
 use Rattle.std.proofs.Common.{get_or}
 use Rattle.store_model.proofs.Free.{as_many}
 
 pub recorded_id_by : (id : ℕ) (count : Option SlotCount) (live : ℕ) → (recorded_by id count live).id ≡ id
 recorded_id_by id None live = refl
 recorded_id_by id (Some c) live = refl
-
-count_there : (held : List (Option HeaderValue)) (slot : ℕ) (h : HeaderValue) → slice_get held slot ≡ Some (Some h)
-    → slice_get (map count_of held) slot ≡ Some (count_of (Some h))
-count_there [] slot h there = absurd cc
-count_there (x ∷ xs) zero h there = ap (λ (y : Option HeaderValue). Some (count_of y)) (some_same x (Some h) there)
-count_there (x ∷ xs) (suc slot) h there = count_there xs slot h there
 
 recorded_live_by : (id : ℕ) (count : Option SlotCount) (live : ℕ) → (recorded_by id count live).live ≡ live
 recorded_live_by id None live = refl

@@ -54,9 +54,7 @@ module _ (index : PlaceMap) (store : Store) (parts : List Part) (image : List �
   -- a safe sweep, from filtering on
   sweep_at : (c : Collection) (stage : Stage) → ((level slot : ℕ) → stage ≡ Mark level slot → ⊥) → SweepIsSafe index store parts image c → IsSafeAt stage index store parts image c
   sweep_at c (Mark level slot) none safe = absurd (none level slot refl)
-  sweep_at c (Filter slot) none safe = safe
-  sweep_at c Select none safe = safe
-  sweep_at c Sweep none safe = safe
+  sweep_at c other none safe = safe
 
   pub sweep_safe : (c : Collection) → ((level slot : ℕ) → c.stage ≡ Mark level slot → ⊥) → SweepIsSafe index store parts image c → IsSafe index store parts image c
   sweep_safe c none safe = sweep_at c c.stage none safe
@@ -95,6 +93,4 @@ others_safe index later s t before after old new c d keeps same safe = subst (λ
   where
     by_stage : (stage : Stage) → IsSafeAt stage index s before old c → IsSafeAt stage later t after new d
     by_stage (Mark level slot) marks = keeps.0 marks
-    by_stage (Filter slot) sweep = keeps.1 sweep
-    by_stage Select sweep = keeps.1 sweep
-    by_stage Sweep sweep = keeps.1 sweep
+    by_stage other sweep = keeps.1 sweep

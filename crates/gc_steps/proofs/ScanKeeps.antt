@@ -1,5 +1,5 @@
 -- A scan keeps marks closed.
-use Rattle.gc_steps.proofs.Prelude.{◌≡◌, ◌⊎◌, inl, inr, ℕ, ◌+◌, ◌<◌, true, List, [], ◌∷◌, ◌++◌, length, map, take, Option, Some, refl, sym, ◌∙◌, ap, subst, arith, slice_get, All, AllByRecursion, flat_map, All-contains, All-from_recursion, All-weaker, recursion_from_All, Part, Entry, Place, is_level, PlaceMap, HeaderValue, IsHeader, DiskView, shown_content, LiveKeys, IsAmong, HaveNodes, Scan, child_keys, among_keys, level_of, Refusal, Memory, Files, Store, entry_key, HoldsSlot, IsPartialIndexOf, IsStoreOf, node_key, have_levels, Represents, Tables, Collection, Stage, Mark, IsLive, HoldsNode, IsWhole, KeepsMarks, MarksOnly, Scans, ScansEntries, ScansSome, scan_for, IsPassed, MarksAreClosed, WasScanned, ShowsAt, mark_from}
+use Rattle.gc_steps.proofs.Prelude.{◌≡◌, ◌⊎◌, inl, inr, ℕ, ◌+◌, ◌<◌, true, List, [], ◌++◌, length, take, Option, Some, refl, sym, ◌∙◌, ap, subst, arith, slice_get, All, AllByRecursion, flat_map, All-contains, All-from_recursion, All-weaker, recursion_from_All, Part, Entry, Place, is_level, PlaceMap, HeaderValue, IsHeader, DiskView, shown_content, LiveKeys, IsAmong, HaveNodes, Scan, child_keys, among_keys, level_of, Refusal, Memory, Files, Store, entry_key, HoldsSlot, IsPartialIndexOf, IsStoreOf, node_key, have_levels, Represents, Tables, Collection, Stage, Mark, IsLive, HoldsNode, IsWhole, KeepsMarks, MarksOnly, Scans, ScansEntries, ScansSome, scan_for, IsPassed, MarksAreClosed, WasScanned, ShowsAt, mark_from}
 use Rattle.std.specs.List.{Contains}
 use Rattle.std.proofs.lemmas.List.Elements.{All-take}
 use Rattle.gc_enumerate.specs.Live.{IsLiveAt}
@@ -9,9 +9,10 @@ use Rattle.merkle_file.specs.Tree.{Tree}
 use Rattle.store_model.specs.Slots.{Copy}
 use Rattle.store_model.proofs.Free.{as_many}
 use Rattle.gc_steps.proofs.ChildTrees.{IsTreeOf, IsWholeBelow, children_whole, node_of_whole}
-use Rattle.gc_steps.proofs.FoundNodes.{IsLiveNode, child_found, header_held, new_live, node_scanned, scanned_node}
-use Rattle.gc_steps.proofs.Marked.{contains_first, contains_head, contains_next, contains_none}
+use Rattle.gc_steps.proofs.FoundNodes.{IsLiveNode, child_found, new_live, node_scanned, scanned_node}
 use Rattle.gc_steps.proofs.NextStage.{PassesOne, passes_one}
+use Rattle.gc_steps.proofs.AllFound.{first_ones}
+use Rattle.gc_sweep.proofs.SourceRead.{header_in}
 
 -- the level of a tree that is a node's
 level_of_tree : (t : Tree (List ℕ)) (n : Contents) → IsTreeOf t n → level_of t ≡ n.level
@@ -108,14 +109,6 @@ module _ (index : PlaceMap) (store : Store) (parts : List Part) (image : List �
 
 -- ---- what was marked
 
--- the first ones of these are among them
-first_ones : {X : Type 0} (f : X → List ℕ) (xs ys : List X) (key : List ℕ) → Contains (map f xs) key → Contains (map f (xs ++ ys)) key
-first_ones f [] ys key there = absurd (contains_none key there)
-first_ones f (x ∷ xs) ys key there = elim (contains_first (f x) key (map f xs) there) [
-  | inl here ↦ subst (λ (k : List ℕ). Contains (f x ∷ map f (xs ++ ys)) k) (sym here) (contains_head (f x) (map f (xs ++ ys)))
-  | inr later ↦ contains_next (f x) key (map f (xs ++ ys)) (first_ones f xs ys key later)
-]
-
 module _ (index : PlaceMap) (store : Store) (files : Files) (image : List ℕ) (holds : IsStoreOf store files image) (partial : IsPartialIndexOf store.held index)
     (old new : DiskView) (content : old.content ≡ Some image) (level slot : ℕ) (h : HeaderValue) (right : IsHeader h) (live : LiveKeys) where
   abbrev scan : Scan
@@ -210,7 +203,7 @@ module _ (index : PlaceMap) (store : Store) (files : Files) (parts : List Part) 
       let slots = represents.slots_hold in
       let inside : slot < length store.held = omega (arith, within, ap length slots.ids_are, as_many store.held) in
       let shown : HoldsSlot image slot (Some scans.header) = shown_content old new (λ (i : List ℕ). HoldsSlot i slot (Some scans.header)) image scans.shown content in
-      let there : slice_get store.held slot ≡ Some (Some scans.header) = header_held store.held image slot scans.header holds.right.slots_are inside shown in
+      let there : slice_get store.held slot ≡ Some (Some scans.header) = header_in store.held image slot scans.header holds.right.slots_are inside shown in
       let same : after.snapshot ≡ before.snapshot = ap (λ (c : Collection). c.snapshot) scans.collection_is in
       let now : after.stage ≡ mark_from before.snapshot t.held level (slot + 1) = ap (λ (c : Collection). c.stage) scans.collection_is in
       scanned_closed index store files parts image holds

@@ -95,10 +95,7 @@ module _ (known mid_known : Option PlaceMap) (old mid new : DiskView) (reads : O
   pub kept_since : (after : LiveKeys) (fault : ScanFault) → LeavesMarks (scan_for mid_known before slot level h) (ShowsAt mid new) h.entries after fault
       → LeavesMarks (scan_for known before slot level h) (ShowsAt old new) h.entries after fault
   kept_since after faults.Memory kept = some_since after kept
-  kept_since after faults.DiskRead kept = kept
-  kept_since after (faults.Damaged at why) kept = kept
-  kept_since after (faults.Corrupt at offset count want got) kept = kept
-  kept_since after (faults.Missing key) kept = kept
+  kept_since after other kept = kept
 
   pub fault_since : (fault : ScanFault) → IsEntriesFault mid_known mid new slot level h before fault → IsEntriesFault known old new slot level h before fault
   fault_since fault cause =
@@ -119,7 +116,4 @@ keeps_marks known old new level slot c live fault refusal h right shown is kept 
     by_fault : (f : ScanFault) → LeavesMarks (scan_for known c.live slot level h) (ShowsAt old new) h.entries live f
         → KeepsMarks known old new level slot c (record c { live = live }) (step_refusal f)
     by_fault faults.Memory kept = inr (record { header = h; right = right; shown = shown; scanned = kept; collection_is = refl })
-    by_fault faults.DiskRead kept = stays kept
-    by_fault (faults.Damaged at why) kept = stays kept
-    by_fault (faults.Corrupt at offset count want got) kept = stays kept
-    by_fault (faults.Missing key) kept = stays kept
+    by_fault other kept = stays kept

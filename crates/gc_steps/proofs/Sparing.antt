@@ -1,5 +1,5 @@
 -- Which keys are live after a scan, what holds of a sweep that is safe, and what holds of a container that is given back.
-use Rattle.gc_steps.proofs.Prelude.{◌≡◌, ◌⊎◌, inl, inr, ℕ, zero, suc, ◌<◌, List, [], ◌∷◌, length, Option, Some, refl, subst, arith, slice_get, Part, PlaceMap, HeaderValue, IsHeader, DiskView, LiveKeys, IsAmong, child_keys, HasNoEntryIn, Files, Store, HasKey, IsPartialIndexOf, IsStoreOf, node_key, Collection, Stage, Mark, Filter, Select, SweepStage, HoldsNode, ScansEntries, ScansSome, IsSafe, IsSafeAt, IsWithin, HoldsAt}
+use Rattle.gc_steps.proofs.Prelude.{◌≡◌, ◌⊎◌, inl, inr, ℕ, zero, suc, ◌<◌, List, [], ◌∷◌, length, Option, Some, refl, subst, arith, slice_get, Part, PlaceMap, HeaderValue, IsHeader, DiskView, LiveKeys, IsAmong, child_keys, HasNoEntryIn, Files, Store, HasKey, IsPartialIndexOf, IsStoreOf, node_key, Collection, Stage, SweepStage, HoldsNode, ScansEntries, ScansSome, IsSafe, IsSafeAt, IsWithin, HoldsAt}
 use Rattle.std.specs.List.{Contains}
 use Rattle.gc_enumerate.specs.Live.{IsLiveAt}
 use Rattle.gc_sweep.proofs.Released.{none_held}
@@ -43,10 +43,8 @@ pub held_at : (index : PlaceMap) (store : Store) (parts : List Part) (image : Li
 held_at index store parts image c = by_stage c.stage refl
   where
     by_stage : (stage : Stage) → c.stage ≡ stage → IsSafeAt stage index store parts image c → HoldsAt stage index store.held image c
-    by_stage (Mark level at) is safe = tt
-    by_stage (Filter at) is safe = tt
-    by_stage Select is safe = tt
     by_stage SweepStage is safe = subst (λ (s : Stage). HoldsAt s index store.held image c) is safe.sweep_holds
+    by_stage other is safe = tt
 
 -- A container that is about to be given back holds the newest copy of no key of which P holds, where the index has all such.
 pub ready_is_spare : (P : List ℕ → Type 0) (index : PlaceMap) (store : Store) (slot : ℕ) (h : HeaderValue) → slice_get store.held slot ≡ Some (Some h)

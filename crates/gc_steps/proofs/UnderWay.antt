@@ -198,15 +198,11 @@ live_on t c live under = record { began = under.began; ids_differ = under.ids_di
   where
     chose : (stage : Stage) → HasChosen stage c → HasChosen stage (record c { live = live })
     chose (Mark level slot) was = was
-    chose (Filter slot) was = was
-    chose Select was = was
-    chose Sweep was = was
+    chose other was = was
 
     by_stage : (stage : Stage) → HasStage t c stage → HasStage t (record c { live = live }) stage
     by_stage (Mark level slot) was = was
-    by_stage (Filter slot) was = was
-    by_stage Select was = was
-    by_stage Sweep was = was
+    by_stage other was = was
 
 -- ---- the sweep goes on
 

@@ -368,7 +368,8 @@ module _ (percent : ℕ) (start : FileMachine) (opened : Store) where
 
     sweep_line : Line of_files lines.Sweep reply ss d mid → Last
     sweep_line (run, inl (admits, (made, a, did, (told, is, reply_is), last, sessions))) =
-        let parts = run_parts of_files made (step_of of_files a asked.GcStep told ∷ []) d.machine mid.machine (subst (λ (xs : ListOf Step). Run of_files xs d.machine mid.machine) is run) in
+        let parts = run_parts of_files made (step_of of_files a asked.GcStep told ∷ []) d.machine mid.machine
+        (subst (λ (xs : ListOf Step). Run of_files xs d.machine mid.machine) is run) in
         let u = all_went percent start.now opened made d.machine parts.0 runs.under did parts.1 in
         let legal = run_one (step_of of_files a asked.GcStep told) (step_of of_files a asked.GcStep told ∷ []) parts.0 mid.machine refl parts.2 in
         last_so made did parts.0 parts.1 u a told reply_is last (subst (λ (st : RunState (ListOf ℕ)). ByState of_files st a asked.GcStep told parts.0 mid.machine) u.runs legal)

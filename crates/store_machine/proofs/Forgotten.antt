@@ -163,7 +163,8 @@ module _ (m : F) (r : G) (same : Forgets m r) where
       let tops : List Top = start_of (top_of (root_of file)) in
       goes (λ t. OpensValue of_roots a name count r t) n (put_at m a (Reading file rest)) (put_at r a (Reading (root_of file) tops)) others
       (named, idle a is_idle, (root_of file, tops, some_same m.now r.now same.now name file found, refl, count_is, refl))
-      (put m r same a (Reading file rest) (Reading (root_of file) tops) (refl, subst (λ (l : List (List ℕ)). Rests l tops) (sym starts) (start_both file (same.now.few name file found))))
+      (put m r same a (Reading file rest) (Reading (root_of file) tops)
+      (refl, subst (λ (l : List (List ℕ)). Rests l tops) (sym starts) (start_both file (same.now.few name file found))))
 
   given : (a : ℕ) (bytes : List ℕ) (n : F) → GivesBytes of_files a bytes m n → Left (λ t. GivesBytes of_roots a bytes r t) n
   given a bytes n (file, rest, after, was, gives, others) =
@@ -270,7 +271,8 @@ module _ (m : F) (r : G) (same : Forgets m r) where
 
   stop : (P : G → Type 0) (n : F) (other : Option (Found (List ℕ))) (found : Option (Found Root)) (stores others : List Store) → n ≡ record m { state = Stopped other stores }
       → SameState (Stopped other stores) (Stopped found others) → P (record r { state = Stopped found others }) → Left P n
-  stop P n other found stores others is one holds = goes P n (record m { state = Stopped other stores }) (record r { state = Stopped found others }) is holds (with_state m r same (Stopped other stores) (Stopped found others) one)
+  stop P n other found stores others is one holds = goes P n (record m { state = Stopped other stores }) (record r { state = Stopped found others }) is holds
+      (with_state m r same (Stopped other stores) (Stopped found others) one)
 
   on_id : (P : ℕ → Type 0) → P m.last_id → P r.last_id
   on_id P is = subst P (sym same.last_id) is

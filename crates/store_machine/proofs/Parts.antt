@@ -22,17 +22,15 @@ RootPart = Part Root (List Top)
 
 pub part_at : (ps : List FilePart) (qs : List RootPart) (i : ℕ) → SameParts ps qs → SamePart (slice_index_or ps i Idle) (slice_index_or qs i Idle)
 part_at [] [] i same = tt
-part_at [] (q ∷ qs) i same = absurd same
-part_at (p ∷ ps) [] i same = absurd same
 part_at (p ∷ ps) (q ∷ qs) zero same = same.0
 part_at (p ∷ ps) (q ∷ qs) (suc i) same = part_at ps qs i same.1
+part_at other it i same = absurd same
 
 pub set_at : (ps : List FilePart) (qs : List RootPart) (i : ℕ) (p : FilePart) (q : RootPart) → SameParts ps qs → SamePart p q → SameParts (slice_set ps i p) (slice_set qs i q)
 set_at [] [] i p q same one = tt
-set_at [] (y ∷ qs) i p q same one = absurd same
-set_at (x ∷ ps) [] i p q same one = absurd same
 set_at (x ∷ ps) (y ∷ qs) zero p q same one = (one, same.1)
 set_at (x ∷ ps) (y ∷ qs) (suc i) p q same one = (same.0, set_at ps qs i p q same.1 one)
+set_at other it i p q same one = absurd same
 
 pub all_same : (n : ℕ) → SameParts (replicate n Idle) (replicate n Idle)
 all_same zero = tt
@@ -46,10 +44,9 @@ kind_same other it same = absurd same
 
 pub idle_same : (p : FilePart) (q : RootPart) → SamePart p q → p ≡ Idle → q ≡ Idle
 idle_same Idle Idle same is = refl
-idle_same Idle (Writing pins) same is = absurd same
-idle_same Idle (Reading root tops) same is = absurd same
 idle_same (Writing pins) q same is = absurd (let wrong : Writing pins ≡ Idle = is in cc)
 idle_same (Reading file rest) q same is = absurd (let wrong : Reading file rest ≡ Idle = is in cc)
+idle_same other it same is = absurd same
 
 pub writing_same : (p : FilePart) (q : RootPart) (pins : PinMap) → SamePart p q → p ≡ Writing pins → q ≡ Writing pins
 writing_same Idle q pins same is = absurd (let wrong : Idle ≡ Writing pins = is in cc)
@@ -108,10 +105,9 @@ reading_back (Reading file rest) (Reading own left) root tops same is =
 pub set_told : (ps : List FilePart) (qs : List RootPart) (i : ℕ) (p : FilePart) (q : RootPart) → SameParts ps qs → SamePart p (slice_index_or (slice_set qs i q) i Idle)
     → SameParts (slice_set ps i p) (slice_set qs i q)
 set_told [] [] i p q same one = tt
-set_told [] (y ∷ qs) i p q same one = absurd same
-set_told (x ∷ ps) [] i p q same one = absurd same
 set_told (x ∷ ps) (y ∷ qs) zero p q same one = (one, same.1)
 set_told (x ∷ ps) (y ∷ qs) (suc i) p q same one = (same.0, set_told ps qs i p q same.1 one)
+set_told other it i p q same one = absurd same
 
 -- where one is at something, it is at what it is put to
 pub put_told : {V R : Type 0} (qs : List (Part V R)) (i : ℕ) (value : V) (rest : R) (q : Part V R) → slice_index_or qs i Idle ≡ Reading value rest

@@ -89,4 +89,5 @@ module _ (m : F) (r : G) (same : Forgets m r) where
 
   pub stop : (P : F → Type 0) (t : G) (other : Option (Found (List ℕ))) (found : Option (Found Root)) (stores others : List Store) → t ≡ record r { state = Stopped found others }
       → SameState (Stopped other stores) (Stopped found others) → P (record m { state = Stopped other stores }) → Recalls P t
-  stop P t other found stores others is one holds = goes P t (record r { state = Stopped found others }) (record m { state = Stopped other stores }) is holds (with_state m r same (Stopped other stores) (Stopped found others) one)
+  stop P t other found stores others is one holds = goes P t (record r { state = Stopped found others }) (record m { state = Stopped other stores }) is holds
+      (with_state m r same (Stopped other stores) (Stopped found others) one)

@@ -74,7 +74,8 @@ module _ (m : F) (r : G) (same : Forgets m r) where
           more_left s.filled u.filled more,
           (λ known. subst (GoesOver of_files c m.store s u m.forgotten) left told.0),
           elim ends [
-            | inl (source, entry, next_is, inr (inr (unknown, filled, waiting, none))) ↦ inl (source, entry, still s u next next_is, inr (inl (filled, waiting, told.1 source filled)))
+            | inl (source, entry, next_is, inr (inr (unknown, filled, waiting, none))) ↦
+                inl (source, entry, still s u next next_is, inr (inl (filled, waiting, told.1 source filled)))
             | inl (source, entry, next_is, inr (inl ends)) ↦ inl (source, entry, still s u next next_is, inr (inl ends))
             | inl (source, entry, next_is, inl ends) ↦ inl (source, entry, still s u next next_is, inl ends)
             | inr stops ↦ inr stops

@@ -197,9 +197,8 @@ module _ (name : ListOf ℕ) (now : Found (ListOf ℕ)) (opened : Store) where
       gives answer is sessions does = absurd does
 
       stays : (rest : ListOf (ListOf ℕ)) (refusal : Refusal) (after : ListOf (ListOf ℕ)) → StaysAt rest refusal after → refusal ≡ refusals.DiskRead
-      stays [] refusal after is = absurd is
       stays (bytes ∷ left) refusals.DiskRead after is = refl
-      stays (bytes ∷ left) refusal after is = absurd is
+      stays other refusal after is = absurd is
 
       read_refused : (refusal : Refusal) → reply ≡ replies.Refused refusal → (value : ListOf ℕ) (rest after : ListOf (ListOf ℕ)) → StaysAt rest refusal after
           → mid.machine ≡ put_at d.machine 0 (Reading value after) → Next

@@ -88,9 +88,8 @@ pub room_in : (opened store : Store) (c : C) (phase : Phase) → RoomAt opened s
 room_in opened store c phase room_at is other room = by c.stage room_at is
   where
     by : (stage : Stage) → RoomAt opened store stage → phase ≡ phase_by store.held c stage → RESERVE ≤ free_slots store.held
-    by (Marking left) same at = subst (λ (x : Store). RESERVE ≤ free_slots x.held) (sym same) room
-    by Recording same at = subst (λ (x : Store). RESERVE ≤ free_slots x.held) (sym same) room
     by (Sweeping next s) has at = ⊎_elim (λ release. absurd (other (at ∙ release))) (λ none. omega (arith, has.room room, ap length none)) has.idle
+    by other same at = subst (λ (x : Store). RESERVE ≤ free_slots x.held) (sym same) room
 
 abbrev pub SourcedAt : Store → C → Stage → Type 0
 SourcedAt opened c (Marking left) = Unit {0}

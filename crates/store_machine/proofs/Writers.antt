@@ -13,9 +13,8 @@ use Rattle.store_machine.specs.Done as done
 
 pub same_or_not : (a b : ℕ) → (a ≡ b) ⊎ (a ≢ b)
 same_or_not zero zero = inl refl
-same_or_not zero (suc b) = inr (λ is. omega (arith, is))
-same_or_not (suc a) zero = inr (λ is. omega (arith, is))
 same_or_not (suc a) (suc b) = elim (same_or_not a b) [ inl is ↦ inl (ap suc is) | inr not ↦ inr (λ is. not (omega (arith, is))) ]
+same_or_not other it = inr (λ is. omega (arith, is))
 
 -- what is found there has a place, and is what was set
 pub within : {T : Type 0} (xs : List (Option T)) (a : ℕ) (x : T) → slice_index_or xs a None ≡ Some x → a < length xs

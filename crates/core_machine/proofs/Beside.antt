@@ -68,16 +68,11 @@ module _ (held : List (Option HeaderValue)) (t now : SlotTable) (slot : ℕ) (h 
       same.1,
     )
     stage_beside (Marking left) (core.Filter from) has same = absurd same
-    stage_beside (Marking left) core.Select has same = absurd same
-    stage_beside (Marking left) core.Sweep has same = absurd same
     stage_beside Recording (core.Mark level from) has same = absurd same
     stage_beside Recording (core.Filter from) has same = same
     stage_beside Recording core.Select has same = same
-    stage_beside Recording core.Sweep has same = absurd same
-    stage_beside (Sweeping phase p) (core.Mark level from) has same = absurd same
-    stage_beside (Sweeping phase p) (core.Filter from) has same = absurd same
-    stage_beside (Sweeping phase p) core.Select has same = absurd same
     stage_beside (Sweeping phase p) core.Sweep has same = same_sweep_beside k.snapshot k.sweep has swept sources changes phase p same
+    stage_beside other it has same = absurd same
 
   -- It is the machine's still, by the table with that container.
   pub same_beside : (swept : Bool) (a : Option (Collection Root)) (b : Option CoreCollection) → t.last_id < h.id → IsUnderWayIn t b → SameCollection t swept a b

@@ -52,13 +52,11 @@ module _ (among : ByteSet) (m : FileMachine) (old new : CoreState) (at : IsAt (I
   GivesNothing stage next = Unit {0}
 
   nothing : (stage : Stage) (next : Next) (e : Ending) → GivesNothing stage next → Touches stage next c.sweep old.tables e old.disk new.disk → Counts
-  nothing (Mark level slot) next e none touches = read_counts touches.only
-  nothing (Filter slot) next e none touches = read_counts touches.only
-  nothing Select next e none touches = read_counts touches.only
   nothing Sweep (Copy source entry) e none touches = counts_told S m.store (stored_in m.now) old new at (touches m.store.slots at.valid.size_is).content_is
   nothing Sweep (Flush source entry) e none touches = absurd none
   nothing Sweep (Release source entry) e none touches = absurd none
   nothing Sweep End e none touches = read_counts touches.only
+  nothing other next e none touches = read_counts touches.only
 
   safe : IsSafe at.index m.store old.parts image c
   safe = subst (IsSafeIn at.index m.store old.parts image) runs (at.safe image here)

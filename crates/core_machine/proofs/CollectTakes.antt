@@ -1,5 +1,5 @@
 -- A file that is read goes on over a step of a collection, which spares what is needed: the trees of the files that actors read.
-use Rattle.core_machine.proofs.Prelude.{◌≡◌, inr, ◌<◌, ℕ, List, [], ◌∷◌, Option, Some, refl, sym, ◌∙◌, ap, subst, AllByRecursion, HeaderValue, of_segment, IsTree, segments_in, Top, ACTORS, Reader, SegmentsAhead, segments_on, IsPartKey, IsIn, Stored, Store, root_key, HoldsCounted, key_set, tree_keys, HasKey, KeepsCopies, HasNewest, file_tree, contained, in_set, tree_on, right_file, root_of_tree, HoldsPart, IsAt, CoreState, all_part}
+use Rattle.core_machine.proofs.Prelude.{◌≡◌, inr, ◌<◌, ℕ, List, [], ◌∷◌, Option, Some, refl, sym, ◌∙◌, ap, subst, AllByRecursion, HeaderValue, of_segment, IsTree, segments_in, ACTORS, Reader, SegmentsAhead, segments_on, IsPartKey, IsIn, Stored, Store, root_key, HoldsCounted, key_set, tree_keys, HasKey, KeepsCopies, HasNewest, file_tree, contained, in_set, tree_on, right_file, root_of_tree, HoldsPart, IsAt, CoreState, all_part}
 use Rattle.std.proofs.Common.{map}
 use Rattle.std.specs.List.{Contains}
 use Rattle.merkle_file.specs.Tree.{Tree, Empty, Leaf, Node, root_of}
@@ -8,6 +8,7 @@ use Rattle.actor_parts.specs.declared.part.Part.TheVariants as core_parts
 use Rattle.actor_parts.specs.declared.part.Part as core_part
 use Rattle.actor_parts.specs.Parts.{part_of}
 use Rattle.read_steps.specs.Opening.{top_of}
+use Rattle.read_steps.proofs.Whole.{head_is, tail_is}
 use Rattle.gc_steps.specs.Safety.{IsNeeded}
 use Rattle.gc_steps.proofs.ReaderNeeds.{reader_needs}
 use Rattle.store_model.proofs.Unfolding.{trees_agree}
@@ -24,12 +25,6 @@ module _ (held : List (Option HeaderValue)) (image : List ℕ) (P Q : List ℕ �
   right_tree (Leaf segment) right = (right, tt)
   right_tree (Node level ts) right = (right, tt)
 
-  first_top : (a b : Top) (xs ys : List Top) → a ∷ xs ≡ b ∷ ys → a ≡ b
-  first_top a b xs ys is = cc
-
-  rest_tops : (a b : Top) (xs ys : List Top) → a ∷ xs ≡ b ∷ ys → xs ≡ ys
-  rest_tops a b xs ys is = cc
-
   same_lists : (t u : Tree (List ℕ)) (ts us : List (Tree (List ℕ))) → t ≡ u → ts ≡ us → t ∷ ts ≡ u ∷ us
   same_lists t u ts us first rest = cc
 
@@ -40,8 +35,8 @@ module _ (held : List (Option HeaderValue)) (image : List ℕ) (P Q : List ℕ �
   same_trees (t ∷ ts) [] tops right also one other = absurd (let wrong = tops in cc)
   same_trees (t ∷ ts) (u ∷ us) tops right also one other =
       same_lists t u ts us
-      (trees_agree held image t u (right_tree t right.0) (right_tree u also.0) one.0.tree_is_held other.0.tree_is_held (first_top _ _ _ _ tops))
-      (same_trees ts us (rest_tops _ _ _ _ tops) right.1 also.1 one.1 other.1)
+      (trees_agree held image t u (right_tree t right.0) (right_tree u also.0) one.0.tree_is_held other.0.tree_is_held (head_is _ _ _ _ tops))
+      (same_trees ts us (tail_is _ _ _ _ tops) right.1 also.1 one.1 other.1)
 
 -- ---- a file that is read, where what is needed is spared
 

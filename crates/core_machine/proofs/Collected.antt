@@ -10,7 +10,6 @@ use Rattle.gc_steps.specs.Stepping.{StepsTo}
 use Rattle.refusals.specs.declared.refusal.Phase.TheVariants as phases
 use Rattle.refusals.specs.declared.refusal.Refusal.TheVariants as refusals
 use Rattle.store_core.specs.Collecting as collecting
-use Rattle.store_core.specs.Collecting.{HasEnded, NoneRuns}
 use Rattle.store_machine.specs.Asked as asked
 use Rattle.store_machine.specs.Collecting.{GoesOn}
 use Rattle.core_machine.specs.Refines.{SameParts}

@@ -244,19 +244,7 @@ module _ (bytes : List ℕ) (m n : FileMachine) (runs : m.state ≡ Running) (ac
       by_state : (step : StepValue) → LegalBy of_files (asked_as (λ root. bytes) step) actor (Err refusals.DiskWrite) m n
           → ByState of_files m.state actor (asked_as (λ root. bytes) step) (Err refusals.DiskWrite) m n
       by_state steps.Begin legal = legal
-      by_state (steps.Claim seg) legal = legal
-      by_state (steps.Seal offered) legal = legal
-      by_state (steps.Commit name root) legal = legal
-      by_state steps.Abort legal = legal
-      by_state (steps.OpenRead name) legal = legal
-      by_state steps.ReadNext legal = legal
-      by_state steps.EndRead legal = legal
-      by_state (steps.Delete name) legal = legal
-      by_state steps.ListNames legal = legal
-      by_state (steps.GcStart percent) legal = legal
-      by_state steps.GcStep legal = legal
-      by_state steps.Stat legal = legal
-      by_state steps.Unique legal = legal
+      by_state other legal = legal
 
   -- none but those that write are
   it_writes : (step : StepValue) → Refuses of_files actor (asked_as (λ root. bytes) step) refusals.DiskWrite m n → Writes step

@@ -23,8 +23,8 @@ use Rattle.store_core.specs.Runs.{IsRightCommit, IsRootOf}
 use Rattle.actor_parts.specs.Offers.{IsOffer}
 use Rattle.ingest_steps.specs.Offering.{HasSlots, WereCompared}
 use Rattle.store_core.proofs.Damage.{IsTwin, OneHoldsTwin, got_taken, twin_is_tree}
-use Rattle.store_core.proofs.ManySealed.{all_taken}
 use Rattle.store_core.proofs.KeepingSegments.{node_level}
+use Rattle.store_core.proofs.ManySealed.{all_taken}
 use Rattle.store_machine.specs.Asked as asked
 use Rattle.store_machine.specs.Legal.{AllFit, IsFirstClash, IsClashIn}
 use Rattle.store_machine.specs.Needs.{Fits}
@@ -43,11 +43,6 @@ pub segment_there : (xs : List Segment) (i : ℕ) → i < length xs → slice_ge
 segment_there [] i within = absurd (omega (arith, within))
 segment_there (x ∷ xs) zero within = refl
 segment_there (x ∷ xs) (suc i) within = segment_there xs i (omega (arith, within))
-
-all_first : (P : Segment → Type 0) (count : ℕ) (xs : List Segment) → AllByRecursion P xs → AllByRecursion P (take count xs)
-all_first P zero xs all = tt
-all_first P (suc count) [] all = tt
-all_first P (suc count) (x ∷ xs) all = (all.0, all_first P count xs all.1)
 
 -- ---- what the index has of a store
 
@@ -226,7 +221,7 @@ module _ (S : List ℕ → Type 0) (m : FileMachine) (t : RootMachine) (old new 
         x,
         segment_there c.segments first.number first.within,
         compared_fit S m.store (stored_in m.now) old new at image content_is m.forgotten tells c.kind (take first.number c.segments) first.hads
-            (all_first (IsOfKind c.kind) first.number c.segments right) first.before,
+            (all_taken (IsOfKind c.kind) first.number c.segments right) first.before,
         clashes S m.store (stored_in m.now) old new at image content_is m.forgotten tells c.kind x tree key difference first.unlike,
       )
 

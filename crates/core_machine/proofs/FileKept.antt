@@ -94,21 +94,15 @@ on_stays m n a bytes (steps.Delete name) refusal other is = delete_stays m n nam
 on_stays m n a bytes (steps.OpenRead name) refusals.Memory other is = same m n is
 on_stays m n a bytes (steps.OpenRead name) refusals.BadName other is = same m n is.1
 on_stays m n a bytes (steps.OpenRead name) refusals.NoFile other is = same m n is.2
-on_stays m n a bytes (steps.OpenRead name) refusal other is = absurd is
 on_stays m n a bytes steps.ReadNext refusal other is = stays_of m n _ is.5 refl refl refl
 on_stays m n a bytes steps.ListNames refusals.Memory other is = same m n is
-on_stays m n a bytes steps.ListNames refusal other is = absurd is
 on_stays m n a bytes (steps.GcStart percent) refusals.Memory other is = same m n is.1
 on_stays m n a bytes (steps.GcStart percent) (refusals.Missing key) other is = same m n is.1.1
 on_stays m n a bytes (steps.GcStart percent) (refusals.Damaged at why) other is = same m n is.1.1
 on_stays m n a bytes (steps.GcStart percent) (refusals.Collecting phase) other is = same m n is.1
-on_stays m n a bytes (steps.GcStart percent) refusal other is = absurd is
 on_stays m n a bytes steps.GcStep refusal other is = absurd other
-on_stays m n a bytes steps.Begin refusal other is = absurd is
-on_stays m n a bytes steps.Abort refusal other is = absurd is
-on_stays m n a bytes steps.EndRead refusal other is = absurd is
-on_stays m n a bytes steps.Stat refusal other is = absurd is
 on_stays m n a bytes steps.Unique refusal other is = unique_stays m n refusal is
+on_stays m n a bytes it refusal other is = absurd is
 
 refused_stays : (m n : FileMachine) (a : ℕ) (bytes : List ℕ) (step : StepValue) (refusal : Refusal) → IsNoGcStep step → Refuses of_files a (ask bytes step) refusal m n
     → Stays m n
@@ -219,19 +213,7 @@ module _ (m n : FileMachine) (a : ℕ) (bytes buf : List ℕ) (t : Store) where
   -- no step is an opening
   pub by_step : (step : StepValue) (told : Result Done Refusal) → LegalBy of_files (ask bytes step) a told m n → ByState of_files m.state a (ask bytes step) told m n
   by_step steps.Begin told by = by
-  by_step (steps.Claim seg) told by = by
-  by_step (steps.Seal offered) told by = by
-  by_step (steps.Commit name root) told by = by
-  by_step steps.Abort told by = by
-  by_step (steps.OpenRead name) told by = by
-  by_step steps.ReadNext told by = by
-  by_step steps.EndRead told by = by
-  by_step (steps.Delete name) told by = by
-  by_step steps.ListNames told by = by
-  by_step (steps.GcStart percent) told by = by
-  by_step steps.GcStep told by = by
-  by_step steps.Stat told by = by
-  by_step steps.Unique told by = by
+  by_step other told by = by
 
   -- a machine that runs answers so
   pub answers_by : m.state ≡ Running → (step : StepValue) (told : Result Done Refusal) → LegalBy of_files (ask bytes step) a told m n

@@ -1,5 +1,5 @@
 -- Just what the machine of files needed as its collection began, or since, is live in a core that is at its files, after each step.
-use Rattle.core_machine.proofs.Prelude.{◌≡◌, ◌↔◌, ℕ, List, [], ◌∷◌, ◌++◌, Option, Some, None, Result, Ok, Err, refl, sym, ◌∙◌, ap, subst, PlaceMap, segment_key, Answer, StepValue, Phase, Refusal, Filter, Mark, Select, IsSafe, CoreStepsTo, Touches, moment, IsStoreAfter, Next, IsLive, IsLater, ending_of, ByteSet, IsIn, Stored, Store, some_same, blames, GcEffect, GcRow, CoreGoesOn, IsKeptKey, IsNotMade, StartRow, TouchesBy, at_moment, Effect, Rests, Row, Steps, StopsAfter, FileEvent, IsAt, IsSafeIn, stored_by, CoreState, running_step, contains_one, led_to, same_some, Asked, FileMachine, marking, marks_of, Answers, MachineCollection, keeping, NeededSince, OneNeeds, keys_kept, values_read, RootMachine, of_files, stored_in, LivesJust, answered_by, asked_as}
+use Rattle.core_machine.proofs.Prelude.{◌≡◌, ◌↔◌, ℕ, List, [], ◌∷◌, ◌++◌, Option, Some, None, Result, Ok, Err, refl, sym, ◌∙◌, ap, subst, PlaceMap, segment_key, Answer, StepValue, Phase, Refusal, Mark, IsSafe, CoreStepsTo, Touches, moment, IsStoreAfter, Next, IsLive, IsLater, ending_of, ByteSet, IsIn, Stored, Store, some_same, blames, GcEffect, GcRow, CoreGoesOn, IsKeptKey, IsNotMade, StartRow, TouchesBy, at_moment, Effect, Rests, Row, Steps, StopsAfter, FileEvent, IsAt, IsSafeIn, stored_by, CoreState, running_step, contains_one, led_to, same_some, Asked, FileMachine, marking, marks_of, Answers, MachineCollection, keeping, NeededSince, OneNeeds, keys_kept, values_read, RootMachine, of_files, stored_in, LivesJust, answered_by, asked_as}
 use Rattle.std.proofs.Common.{Contains}
 use Rattle.std.specs.FinMap as finite
 use Rattle.actor_parts.specs.declared.step.Answer.TheVariants as answers
@@ -7,7 +7,6 @@ use Rattle.actor_parts.specs.StepValue as steps
 use Rattle.refusals.specs.declared.refusal.Refusal.TheVariants as refusals
 use Rattle.gc_steps.specs.declared.collection.Collection.{Collection}
 use Rattle.gc_steps.specs.declared.collection.Stage.{Stage}
-use Rattle.gc_steps.specs.declared.collection.Stage.TheVariants.{Sweep}
 use Rattle.gc_steps.specs.Stepping.{Keeps}
 use Rattle.dd_disk.specs.Ending.{Done as DoneEnding}
 use Rattle.store_core.specs.Collecting.{Begins as CoreBegins}
@@ -221,9 +220,7 @@ module _ {C : Type 0} {state : C → CoreState} {among : ByteSet} {f : FileEvent
           → CoreStepsTo stage then (at_moment (state old) goes.before) (at_moment (state new) goes.after)
           → IsSameIn m.store n.store (state old) (state new) stage
       same_at (Mark level slot) then touch store_is made_so = (touch.only.content_is, store_is, made_so.1)
-      same_at (Filter slot) then touch store_is made_so = tt
-      same_at Select then touch store_is made_so = tt
-      same_at Sweep then touch store_is made_so = tt
+      same_at other then touch store_is made_so = tt
 
   -- that was refused
   refused_lives : (refusal : Refusal) → (refusal ≡ refusals.DiskWrite → ⊥) → n ≡ m → (row : IsNotMade refusal (state old) (state new))
@@ -259,9 +256,7 @@ module _ {C : Type 0} {state : C → CoreState} {among : ByteSet} {f : FileEvent
       same_at : (stage : Stage) (then : Next) → Touches stage then row.before.sweep (state old).tables (ending_of (blames refusal)) (state old).disk (state new).disk
           → IsSameIn m.store m.store (state old) (state new) stage
       same_at (Mark level slot) then touch = (touch.only.content_is, refl, known_then ∙ sym begins.index_known)
-      same_at (Filter slot) then touch = tt
-      same_at Select then touch = tt
-      same_at Sweep then touch = tt
+      same_at other then touch = tt
 
   -- ---- whichever it is
 

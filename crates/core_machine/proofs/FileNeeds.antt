@@ -36,20 +36,15 @@ AllFit ps qs = ⊥
 
 part_fits : (p : FilePart) (r : RootPart) (q : core_part.Part) → forgetting.SamePart p r → refines.SamePart r q → PartsFit p q
 part_fits Idle Idle core.Idle one other = tt
-part_fits Idle Idle (core.Writing others) one other = absurd other
-part_fits Idle Idle (core.Reading reader) one other = absurd other
 part_fits Idle (Writing pins) q one other = absurd one
 part_fits Idle (Reading root tops) q one other = absurd one
 part_fits (Writing pins) Idle q one other = absurd one
-part_fits (Writing pins) (Writing mine) core.Idle one other = absurd other
 part_fits (Writing pins) (Writing mine) (core.Writing others) one other = other ∙ one
-part_fits (Writing pins) (Writing mine) (core.Reading reader) one other = absurd other
 part_fits (Writing pins) (Reading root tops) q one other = absurd one
 part_fits (Reading file rest) Idle q one other = absurd one
 part_fits (Reading file rest) (Writing pins) q one other = absurd one
-part_fits (Reading file rest) (Reading root tops) core.Idle one other = absurd other
-part_fits (Reading file rest) (Reading root tops) (core.Writing pins) one other = absurd other
 part_fits (Reading file rest) (Reading root tops) (core.Reading reader) one other = tt
+part_fits it more third one other = absurd other
 
 pub all_fit : (ps : List FilePart) (rs : List RootPart) (qs : List core_part.Part) → forgetting.SameParts ps rs → refines.SameParts rs qs → AllFit ps qs
 all_fit [] [] [] one other = tt

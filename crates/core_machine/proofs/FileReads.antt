@@ -10,6 +10,7 @@ use Rattle.actor_parts.specs.StepValue as steps
 use Rattle.refusals.specs.declared.refusal.Refusal.TheVariants as refusals
 use Rattle.read_steps.specs.Readers as readers
 use Rattle.store_core.specs.Core.{GivesHeld}
+use Rattle.store_core.proofs.RootsKept.{within_parts}
 use Rattle.store_machine.specs.Asked as asked
 use Rattle.store_machine.specs.Forgetting as forgetting
 use Rattle.store_machine.specs.Machine.{Idle, Writing}
@@ -20,7 +21,6 @@ use Rattle.core_machine.proofs.Coming.{ahead_at, indexed_at, takes_at, whole_at}
 use Rattle.core_machine.proofs.FileNeeds.{AllFit, PartsFit, all_fit}
 use Rattle.core_machine.proofs.FileParts.{fit_at}
 use Rattle.core_machine.proofs.FileSteps.{StepsAt}
-use Rattle.core_machine.proofs.LivesOn.{within_parts}
 
 -- ---- an actor that reads
 
@@ -58,12 +58,9 @@ roots_at (q ∷ qs) (p ∷ ps) (suc i) same = roots_at qs ps i same.1
 -- in the core it reads, so it does in the machine of files
 file_part : (p : FilePart) (q : core_part.Part) (reader : Reader) → PartsFit p q → q ≡ core.Reading reader → (file : List ℕ) × ((rest : List (List ℕ)) × (p ≡ Reading file rest))
 file_part Idle core.Idle reader fit is = absurd cc
-file_part Idle (core.Writing pins) reader fit is = absurd fit
-file_part Idle (core.Reading own) reader fit is = absurd fit
-file_part (Writing pins) core.Idle reader fit is = absurd fit
 file_part (Writing pins) (core.Writing others) reader fit is = absurd cc
-file_part (Writing pins) (core.Reading own) reader fit is = absurd fit
 file_part (Reading file rest) q reader fit is = (file, (rest, refl))
+file_part other it reader fit is = absurd fit
 
 -- What a core has of an actor that reads a file.
 pub record ReadsAt (m : FileMachine) (c : CoreState) (actor : ℕ) (root : Root) (cursor : List Top) : Type 0 where

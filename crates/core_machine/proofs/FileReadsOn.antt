@@ -14,6 +14,7 @@ use Rattle.store_model.specs.Standing.{IsStoreOf}
 use Rattle.store_core.proofs.AnySteps.{any_step}
 use Rattle.store_core.proofs.KeepingFiles.{file_step as next_on}
 use Rattle.store_core.proofs.Leading.{IsSpared}
+use Rattle.store_core.proofs.RootsKept.{within_parts}
 use Rattle.store_machine.specs.Machine.{Idle}
 use Rattle.store_machine.proofs.Parts.{put_told}
 use Rattle.core_machine.specs.Files.{Takes}
@@ -24,7 +25,6 @@ use Rattle.core_machine.proofs.FileKept.{answers_by}
 use Rattle.core_machine.proofs.FileParts.{many_same}
 use Rattle.core_machine.proofs.FileReads.{Answered, fit, moved, now_at, said}
 use Rattle.core_machine.proofs.FileSteps.{StepsAt, StepsTo}
-use Rattle.core_machine.proofs.LivesOn.{within_parts}
 use Rattle.core_machine.proofs.ReadersKept.{IsElse, core_kept, file_kept, parts_as}
 use Rattle.core_machine.proofs.RefusedSteps.{refused_left}
 

@@ -248,12 +248,8 @@ module _ (C : Type 0) (state : C → CoreState) (among : ByteSet) (f : FileEvent
     rests : (stage : CoreStage) (next : Next) (refusal : Refusal) (b a : CoreCollection) → Keeps stage next (at_moment c b) (at_moment d a) refusal
         → SweepKept b a
     rests (core.Mark level slot) next refusal b a kept = marks_rest c.known c.disk d.disk level slot refusal b a kept.0
-    rests (core.Filter slot) next refusal b a kept = same_sweep_kept b a kept.0
-    rests core.Select next refusal b a kept = same_sweep_kept b a kept.0
-    rests core.Sweep (nexts.Copy source entry) refusal b a kept = same_sweep_kept b a kept.0
-    rests core.Sweep (nexts.Flush source entry) refusal b a kept = same_sweep_kept b a kept.0
     rests core.Sweep (nexts.Release source entry) refusal b a kept = same_sweep_kept b a kept
-    rests core.Sweep nexts.End refusal b a kept = same_sweep_kept b a kept.0
+    rests other it refusal b a kept = same_sweep_kept b a kept.0
 
     refused_wrote : (refusal : Refusal) → IsNotMade refusal c d → Refuses of_files f.event.actor asked.GcStep refusal m n → WroteOnce n d
     refused_wrote refusal made_so may =

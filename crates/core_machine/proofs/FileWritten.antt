@@ -1,5 +1,5 @@
 -- What a collection wrote it does not write again: a container of an id from its snapshot on has each of these keys, and it fills none of them once more.
-use Rattle.core_machine.proofs.Prelude.{◌≡◌, inl, inr, ℕ, ◌≤◌, true, List, [], ◌++◌, Option, Some, None, refl, sym, ◌∙◌, ap, subst, arith, Contains-append_cases, Contains-get_or, PlaceMap, has_key, HeaderValue, header_of, Mark, Filter, Select, Moment, phase_at, HoldsAt, GoesWell, IsStoreAfter, Next, Flush, Release, End, slot_in_turn, Store, IsPartialIndexOf, first_free, StoreChange, listed_of, there_now, keys_written, changes_of, MachineCollection, keeping, none_in, IsWritten, WroteOnce, CoreState, FileMachine}
+use Rattle.core_machine.proofs.Prelude.{◌≡◌, inl, inr, ℕ, ◌≤◌, true, List, [], ◌++◌, Option, Some, None, refl, sym, ◌∙◌, ap, subst, arith, Contains-append_cases, Contains-get_or, PlaceMap, has_key, HeaderValue, header_of, Moment, phase_at, HoldsAt, GoesWell, IsStoreAfter, Next, Flush, Release, End, slot_in_turn, Store, IsPartialIndexOf, first_free, StoreChange, listed_of, there_now, keys_written, changes_of, MachineCollection, keeping, none_in, IsWritten, WroteOnce, CoreState, FileMachine}
 use Rattle.std.proofs.Common.{append-nil}
 use Rattle.std.specs.Prelude.{Contains, get_or, slice_get}
 use Rattle.std.proofs.lemmas.Grind.{get_or_default_zero}
@@ -109,11 +109,9 @@ module _ (index : PlaceMap) (store store_now : Store) (image : List ℕ) (partia
       subst (λ (s : Store). Stands s slot h) (sym frees.now_is)
       (other_there (slot_in_turn b.sweep) slot store.held
       (λ same. sources_old is h.id new (subst (λ (g : HeaderValue). Contains b.sweep.sources.items g.id) (one same) source)) ∙ there)
-  stands_after (Mark level at) next is same slot h new there = subst (λ (s : Store). Stands s slot h) (sym same) there
-  stands_after (Filter at) next is same slot h new there = subst (λ (s : Store). Stands s slot h) (sym same) there
-  stands_after Select next is same slot h new there = subst (λ (s : Store). Stands s slot h) (sym same) there
   stands_after SweepStage (Copy source entry) is same slot h new there = subst (λ (s : Store). Stands s slot h) (sym same) there
   stands_after SweepStage End is same slot h new there = subst (λ (s : Store). Stands s slot h) (sym same) there
+  stands_after other next is same slot h new there = subst (λ (s : Store). Stands s slot h) (sym same) there
 
   newer_after : (key : List ℕ) → HoldsNewer store.held b.snapshot key → HoldsNewer store_now.held b.snapshot key
   newer_after key newer = record {
@@ -165,9 +163,7 @@ module _ (index : PlaceMap) (store store_now : Store) (image : List ℕ) (partia
             found = entry.1;
           }))
           (no_key a.sweep.buffer key (ap (λ (z : Collection). z.sweep.buffer.segments) (sym is) ∙ made.flushed.emptied))
-      by (Mark level slot) next same made now = absurd (omega (arith, now.1))
-      by (Filter slot) next same made now = absurd (omega (arith, now.1))
-      by Select next same made now = absurd (omega (arith, now.1))
       by SweepStage (Copy source entry) same made now = absurd (omega (arith, now.1))
       by SweepStage (Release source entry) frees made now = absurd (omega (arith, now.1))
       by SweepStage End same made now = absurd (omega (arith, now.1))
+      by other next same made now = absurd (omega (arith, now.1))

@@ -35,20 +35,8 @@ use Rattle.core_machine.proofs.Sealed.{sealed_taken}
 -- ---- one step is asked of both machines
 
 same_asked : (step : StepValue) (bytes : List ℕ) → IsOfFile step bytes → asked_by step ≡ asked_of (asked_as (λ root. bytes) step)
-same_asked steps.Begin bytes of = refl
-same_asked (steps.Claim seg) bytes of = refl
-same_asked (steps.Seal offered) bytes of = refl
 same_asked (steps.Commit name root) bytes of = ap (λ (r : Root). let x : Asked Root = asked_by (steps.Commit name r) in x) of.0
-same_asked steps.Abort bytes of = refl
-same_asked (steps.OpenRead name) bytes of = refl
-same_asked steps.ReadNext bytes of = refl
-same_asked steps.EndRead bytes of = refl
-same_asked (steps.Delete name) bytes of = refl
-same_asked steps.ListNames bytes of = refl
-same_asked (steps.GcStart percent) bytes of = refl
-same_asked steps.GcStep bytes of = refl
-same_asked steps.Stat bytes of = refl
-same_asked steps.Unique bytes of = refl
+same_asked other bytes of = refl
 
 -- the index is followed through each step, where the content is told
 follows_phase : (phase : Phase) (content : Option (List ℕ)) → KnownWith content (λ _. Unit {0}) → FollowsPhase phase content
@@ -92,19 +80,7 @@ none_added step bytes a told m r t none = absurd none
 -- what a stopped core answers adds nothing to any
 stopped_added : (step : StepValue) (bytes : List ℕ) (a at : ℕ) (m : FileMachine) (r t : RootMachine) → AddsBy (asked_as (λ root. bytes) step) a (Err (refusals.Stopped at)) m r t
 stopped_added steps.Begin bytes a at m r t = tt
-stopped_added (steps.Claim seg) bytes a at m r t = tt
-stopped_added (steps.Seal offered) bytes a at m r t = tt
-stopped_added (steps.Commit name root) bytes a at m r t = tt
-stopped_added steps.Abort bytes a at m r t = tt
-stopped_added (steps.OpenRead name) bytes a at m r t = tt
-stopped_added steps.ReadNext bytes a at m r t = tt
-stopped_added steps.EndRead bytes a at m r t = tt
-stopped_added (steps.Delete name) bytes a at m r t = tt
-stopped_added steps.ListNames bytes a at m r t = tt
-stopped_added (steps.GcStart percent) bytes a at m r t = tt
-stopped_added steps.GcStep bytes a at m r t = tt
-stopped_added steps.Stat bytes a at m r t = tt
-stopped_added steps.Unique bytes a at m r t = tt
+stopped_added other bytes a at m r t = tt
 
 -- ---- one that runs
 

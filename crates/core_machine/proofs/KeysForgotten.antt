@@ -13,12 +13,9 @@ use Rattle.store_model.proofs.Indexing.{has_segments}
 use Rattle.store_model.proofs.SealedTrees.{newest_beside}
 use Rattle.store_core.proofs.ManySealed.{none_of}
 use Rattle.store_machine.specs.Needs.{keys_of}
+use Rattle.base_model.proofs.Checks.{not_true}
 
 -- ---- keys in a list
-
-not_true : (b : Bool) → not b ≡ true → b ≡ false
-not_true true is = absurd cc
-not_true false is = refl
 
 neither : (a b : Bool) → (a || b) ≡ false → (a ≡ false) × (b ≡ false)
 neither true b is = absurd cc

@@ -47,9 +47,7 @@ pub below_at : (stage : Stage) (index : PlaceMap) (store : Store) (parts : List 
     → (key : List ℕ) → IsBelowLive index store.held image c.live key
     → IsLiveAtStage stage index store.held image c.live key
 below_at (Mark level at) index store parts image c safe key is = is
-below_at (Filter at) index store parts image c safe key is = below_live index store parts image c safe key is
-below_at Select index store parts image c safe key is = below_live index store parts image c safe key is
-below_at Sweep index store parts image c safe key is = below_live index store parts image c safe key is
+below_at other index store parts image c safe key is = below_live index store parts image c safe key is
 
 -- While it marks reads give the same, of the same store, and the index is the same.
 abbrev pub IsSameIn : Store → Store → CoreState → CoreState → Stage → Type 0
@@ -195,10 +193,8 @@ pub kept_marks : (old new : CoreState) (index : PlaceMap) (c d : Collection) (st
     → IsLiveAt c.live key place → IsLiveAt d.live key place
 kept_marks old new index c d (Mark level slot) next refusals.Memory (inl same, known) key place is = subst (λ (x : Collection). IsLiveAt x.live key place) (sym same) is
 kept_marks old new index c d (Mark level slot) next refusals.Memory (inr only, known) key place is = (only.scanned.marks.1.1.1 key place).1 (inl is)
-kept_marks old new index c d (Mark level slot) next why keeps key place is = subst (λ (x : Collection). IsLiveAt x.live key place) (sym keeps.0) is
-kept_marks old new index c d (Filter slot) next why keeps key place is = subst (λ (x : Collection). IsLiveAt x.live key place) (sym keeps.0) is
-kept_marks old new index c d Select next why keeps key place is = subst (λ (x : Collection). IsLiveAt x.live key place) (sym keeps.0) is
 kept_marks old new index c d Sweep (CopyNext source entry) why keeps key place is = subst (λ (x : Collection). IsLiveAt x.live key place) (sym keeps.0) is
 kept_marks old new index c d Sweep (Flush source entry) why keeps key place is = subst (λ (x : Collection). IsLiveAt x.live key place) (sym keeps.0) is
 kept_marks old new index c d Sweep (Release source entry) why keeps key place is = subst (λ (x : Collection). IsLiveAt x.live key place) (sym keeps) is
 kept_marks old new index c d Sweep End why keeps key place is = subst (λ (x : Collection). IsLiveAt x.live key place) (sym keeps.0) is
+kept_marks old new index c d other next why keeps key place is = subst (λ (x : Collection). IsLiveAt x.live key place) (sym keeps.0) is

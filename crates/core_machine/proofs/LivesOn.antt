@@ -1,7 +1,7 @@
 -- Just the keys of which a predicate holds are live, also after a step that is none of the collection, of which another holds then: of what the
 -- step keeps too. That is pinned, as are the children of a node that it keeps, so that all these are live; and what was live and held whole
 -- stays so.
-use Rattle.core_machine.proofs.Prelude.{◌≡◌, ◌⊎◌, ◌↔◌, inl, inr, ℕ, zero, suc, ◌+◌, ◌-◌, ◌<◌, Bool, true, false, List, [], ◌∷◌, ◌++◌, length, Option, Some, None, Result, Ok, refl, sym, ◌∙◌, ap, subst, arith, slice_get, AllByRecursion, Contains-append_cases, Contains-append_left, Contains-append_right, SLOT_BYTES, slot_at, Kind, Place, PlaceMap, Segment, segment_key, HeaderValue, contents_in, Answer, PinMap, children_by, pin_of, StepValue, apart, Refusal, LiveKeys, IsLiveAt, child_keys, Stored, Store, names_of, key_set, AreHeaders, HasKey, newest, bytes_at, node_key, some_same, contained, in_set, HoldsPart, Mark, Filter, Select, HoldsNode, IsPartKey, IsRoot, IsSafeAt, IsWithin, SweepIsSafe, contains_first, contains_none, IsLive, Collects, IsKeptKey, MarksIn, Row, Steps, ChangesTo, IsAt, IsSafeIn, changes_by, CoreState, Event, NextOn, contains_one, all_part, IsClosedAt, IsLiveAtStage, LivesJust}
+use Rattle.core_machine.proofs.Prelude.{AllByRecursion, Answer, AreHeaders, Bool, ChangesTo, Collects, Contains-append_cases, Contains-append_left, Contains-append_right, CoreState, Event, Filter, HasKey, HeaderValue, HoldsNode, HoldsPart, IsAt, IsClosedAt, IsKeptKey, IsLive, IsLiveAt, IsLiveAtStage, IsPartKey, IsRoot, IsSafeAt, IsSafeIn, IsWithin, Kind, List, LiveKeys, LivesJust, Mark, MarksIn, NextOn, None, Ok, Option, PinMap, Place, PlaceMap, Refusal, Result, Row, SLOT_BYTES, Segment, Some, StepValue, Steps, Store, Stored, SweepIsSafe, [], all_part, ap, apart, arith, bytes_at, changes_by, child_keys, children_by, contained, contains_first, contains_none, contains_one, contents_in, false, in_set, inl, inr, key_set, length, names_of, newest, node_key, pin_of, refl, segment_key, slice_get, slot_at, some_same, subst, sym, true, ℕ, ◌++◌, ◌+◌, ◌-◌, ◌<◌, ◌↔◌, ◌∙◌, ◌∷◌, ◌≡◌, ◌⊎◌}
 use Rattle.std.proofs.Common.{map}
 use Rattle.std.specs.Prelude.{Contains}
 use Rattle.std.specs.FinMap as finite
@@ -27,7 +27,6 @@ use Rattle.store_state.specs.Invariant.{ArePinsOf}
 use Rattle.ingest_steps.specs.Claiming.{key_of_seg}
 use Rattle.gc_steps.specs.declared.collection.Collection.{Collection}
 use Rattle.gc_steps.specs.declared.collection.Stage.{Stage}
-use Rattle.gc_steps.specs.declared.collection.Stage.TheVariants.{Sweep}
 use Rattle.gc_steps.specs.Roots.{Marks}
 use Rattle.gc_steps.proofs.ChildTrees.{leaf_apart}
 use Rattle.gc_steps.proofs.ClaimedPin.{one_more}
@@ -38,6 +37,7 @@ use Rattle.ingest_steps.specs.Offering.{with_pins_of}
 use Rattle.store_core.specs.Collecting.{keys_in}
 use Rattle.store_core.specs.Frame.{HadContainer}
 use Rattle.store_core.proofs.ManySealed.{comes_all, pins_all}
+use Rattle.store_core.proofs.RootsKept.{within_parts}
 use Rattle.core_machine.proofs.LiveTrees.{below_on, live_below, live_on}
 use Rattle.core_machine.proofs.PlainSteps.{IsPlainStep}
 
@@ -126,13 +126,6 @@ copy_stays s base image keeps many headers key copy is =
     copy_kept base image s.held key copy headers is (same_slot copy.place.slot base image (keeps copy.place.slot (omega (arith, l.within, slot, many)) (l.header, there)))
 
 -- ---- pins
-
--- an actor that is at something is one that there is
-pub within_parts : (parts : List Part) (actor : ℕ) → (part_of parts actor ≡ Idle → ⊥) → actor < length parts
-unfolding part_of
-within_parts [] actor some = absurd (some refl)
-within_parts (p ∷ ps) zero some = omega arith
-within_parts (p ∷ ps) (suc actor) some = let rest = within_parts ps actor some in omega (arith, rest)
 
 writes_within : (parts : List Part) (actor : ℕ) (pins : PinMap) → part_of parts actor ≡ Writing pins → actor < length parts
 writes_within parts actor pins writing = within_parts parts actor (λ idle. let wrong : Idle ≡ Writing pins = sym idle ∙ writing in cc)
@@ -288,8 +281,7 @@ module _ (S : List ℕ → Type 0) (s : Store) (stored later : Stored) (old new 
       | inr other ↦ more.still key (closed n copy (node_before n copy node other) (needed_before (node_key n) other needed) key child)
     ]
     closed_on (Filter slot) c within safe closed = tt
-    closed_on Select c within safe closed = tt
-    closed_on Sweep c within safe closed = tt
+    closed_on other c within safe closed = tt
 
     -- once it has marked, each key that was needed is live
     live_after : (old_live : LiveKeys) (c : Collection) → Marks K old_live c.live → SweepIsSafe then.index t new.parts image c
@@ -310,8 +302,7 @@ module _ (S : List ℕ → Type 0) (s : Store) (stored later : Stored) (old new 
       | inr kept ↦ let live = safe.roots_are_live key (kept_root key kept) in live_below then.index t.held image c.live key live (safe.live_is_whole key live)
     ]
     all_on (Filter slot) old_live c marks safe all key needed = live_after old_live c marks safe all key needed
-    all_on Select old_live c marks safe all key needed = live_after old_live c marks safe all key needed
-    all_on Sweep old_live c marks safe all key needed = live_after old_live c marks safe all key needed
+    all_on other old_live c marks safe all key needed = live_after old_live c marks safe all key needed
 
     -- just what was needed is live then, where it was so before
     by_collection : (o : Option Collection) → ((c : Collection) → o ≡ Some c → LivesJust before s old c) → MarksIn K o new.collection → (c : Collection)

@@ -1,5 +1,5 @@
 -- What has been opened on any disk is a machine of roots, and what could not be opened is the one that it was, or is stopped.
-use Rattle.core_machine.proofs.Prelude.{◌≡◌, inl, inr, ℕ, zero, suc, false, List, [], ◌++◌, replicate, Option, Some, None, Ok, refl, sym, ◌∙◌, ap, subst, arith, Bool, ACTORS, PlaceMap, Root, ending_of, Shows, DiskView, Named, RoomUnmade, Refusal, IsValidFor, Store, last_sequence, names_of, IsIndexOf, last_id, Represents, IsReadFrom, OpensNone, WritesUnread, CoreState, IsRunning, blames, Tables, Found, RunState, Running, Stopped, all_idle, MayRefuseOpening, freeing, of_roots, len_changed, stores_left, SameCollection, IsMachine, SameStop}
+use Rattle.core_machine.proofs.Prelude.{◌≡◌, inl, inr, ℕ, zero, suc, false, List, [], ◌++◌, replicate, Some, None, Ok, refl, sym, ◌∙◌, ap, subst, arith, Bool, ACTORS, PlaceMap, Root, ending_of, Shows, DiskView, Named, RoomUnmade, Refusal, IsValidFor, Store, last_sequence, names_of, IsIndexOf, last_id, Represents, IsReadFrom, OpensNone, WritesUnread, CoreState, IsRunning, blames, Tables, Found, RunState, Running, Stopped, all_idle, MayRefuseOpening, freeing, of_roots, len_changed, stores_left, SameCollection, IsMachine, SameStop}
 use Rattle.std.specs.FinMap as finite
 use Rattle.actor_parts.specs.declared.part.Part.TheVariants as core
 use Rattle.dd_disk.specs.Ending.{Reads}
@@ -7,6 +7,7 @@ use Rattle.recovery.specs.Opening.{IsOpenRefusal}
 use Rattle.refusals.specs.declared.refusal.Refusal.TheVariants as refusals
 use Rattle.store_model.proofs.Sound.{last_within}
 use Rattle.store_core.specs.Opening.{IsKept, IsNew, StopsUnopened}
+use Rattle.store_core.proofs.SafeSteps.{alone}
 use Rattle.store_machine.specs.Done as done
 use Rattle.store_machine.specs.Machine.{Idle}
 use Rattle.store_machine.proofs.SameNames.{get_mapped, mapped}
@@ -41,10 +42,6 @@ at_rest store = record {
   state = Running;
 }
 
--- the store that a core has, whatever its index
-unindexed : (store : Store) (known : Option PlaceMap) (t : Tables) → Represents store known t → Represents store None t
-unindexed store known t r = record { slots_are = r.slots_are; names_are = r.names_are; slots_hold = r.slots_hold; index_is_newest = λ index is. absurd cc }
-
 module _ (before : DiskView) (c : CoreState) (read : IsReadFrom before c) (runs : IsRunning c) where
   abbrev opened : IsNew (Shows before c.disk) before.size c
   opened = read.opened
@@ -54,7 +51,7 @@ module _ (before : DiskView) (c : CoreState) (read : IsReadFrom before c) (runs 
 
   rests : (followed : Bool) → IsMachine followed (at_rest opened.store) c
   rests followed = record {
-    represents = unindexed opened.store c.known c.tables opened.represents;
+    represents = alone opened.store c.known c.tables opened.represents;
     valid = subst (λ (size : ℕ). IsValidFor size opened.store) (sym read.reads.only.later.size_is) opened.valid;
     free = omega (arith, opened.reserve);
     names = get_mapped Named Root root_in (names_of opened.store);

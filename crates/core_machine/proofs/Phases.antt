@@ -42,17 +42,10 @@ module _ (held : List (Option HeaderValue)) (t : SlotTable) (swept : Bool) (c : 
   by_stage : (stage : Stage) (at : CoreStage) → HasStage t k at → SameStage t swept (sources_in c) c.changes k.snapshot k.sweep stage at
       → phase_by held c stage ≡ phase_at at k.sweep.next
   by_stage (Marking left) (core.Mark level from) has is = refl
-  by_stage (Marking left) (core.Filter from) has is = absurd is
-  by_stage (Marking left) core.Select has is = absurd is
-  by_stage (Marking left) core.Sweep has is = absurd is
-  by_stage Recording (core.Mark level from) has is = absurd is
   by_stage Recording (core.Filter from) has is = more_left (fewer_recorded held t k right slots from has.0.0 has.0.1 has.1)
   by_stage Recording core.Select has is = none_left (as_many_recorded held t k right slots has.0)
-  by_stage Recording core.Sweep has is = absurd is
-  by_stage (Sweeping next p) (core.Mark level from) has is = absurd is
-  by_stage (Sweeping next p) (core.Filter from) has is = absurd is
-  by_stage (Sweeping next p) core.Select has is = absurd is
   by_stage (Sweeping next p) core.Sweep has is = is.next_is
+  by_stage other it has is = absurd is
 
   pub phase_so : IsUnderWay t k → phase_by held c c.stage ≡ phase_at k.stage k.sweep.next
   phase_so under = by_stage c.stage k.stage under.stage_is same.stage_is

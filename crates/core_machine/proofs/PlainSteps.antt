@@ -10,15 +10,4 @@ IsPlainStep step = Unit {0}
 pub plain_no_gc : (step : StepValue) → IsPlainStep step → IsNoGcStep step
 plain_no_gc (asked.GcStart percent) plain = absurd plain
 plain_no_gc asked.GcStep plain = absurd plain
-plain_no_gc asked.Begin plain = tt
-plain_no_gc (asked.Claim seg) plain = tt
-plain_no_gc (asked.Seal filled) plain = tt
-plain_no_gc (asked.Commit name root) plain = tt
-plain_no_gc asked.Abort plain = tt
-plain_no_gc (asked.OpenRead name) plain = tt
-plain_no_gc asked.ReadNext plain = tt
-plain_no_gc asked.EndRead plain = tt
-plain_no_gc (asked.Delete name) plain = tt
-plain_no_gc asked.ListNames plain = tt
-plain_no_gc asked.Stat plain = tt
-plain_no_gc asked.Unique plain = tt
+plain_no_gc other plain = tt

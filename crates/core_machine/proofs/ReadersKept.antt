@@ -113,18 +113,7 @@ module _ (m n : FileMachine) (a : ℕ) (bytes buf : List ℕ) (x : ℕ) (file : 
   no_read : (step : StepValue) → IsElse step → IsNoRead (ask step)
   no_read (steps.OpenRead name) other = absurd other
   no_read steps.ReadNext other = absurd other
-  no_read steps.Begin other = tt
-  no_read (steps.Claim seg) other = tt
-  no_read (steps.Seal offered) other = tt
-  no_read (steps.Commit name root) other = tt
-  no_read steps.Abort other = tt
-  no_read steps.EndRead other = tt
-  no_read (steps.Delete name) other = tt
-  no_read steps.ListNames other = tt
-  no_read (steps.GcStart percent) other = tt
-  no_read steps.GcStep other = tt
-  no_read steps.Stat other = tt
-  no_read steps.Unique other = tt
+  no_read it other = tt
 
   refused : (step : StepValue) (refusal : Refusal) → IsElse step → Answers of_files a (ask step) (Err refusal) m n → IsRead
   refused step refusal other is = elim (refused_left of_files m n a (ask step) refusal (no_read step other) is) [

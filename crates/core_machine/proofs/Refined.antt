@@ -167,19 +167,7 @@ module _ {followed : Bool} (c d : CoreState) (m : M) (at : IsMachine followed m 
 -- no step is an opening
 by_state : (s : StepValue) (a : ℕ) (told : Result Done Refusal) (m n : M) → ByState of_roots m.state a (asked_by s) told m n → LegalBy of_roots (asked_by s) a told m n
 by_state steps.Begin a told m n by = by
-by_state (steps.Claim seg) a told m n by = by
-by_state (steps.Seal offered) a told m n by = by
-by_state (steps.Commit name root) a told m n by = by
-by_state steps.Abort a told m n by = by
-by_state (steps.OpenRead name) a told m n by = by
-by_state steps.ReadNext a told m n by = by
-by_state steps.EndRead a told m n by = by
-by_state (steps.Delete name) a told m n by = by
-by_state steps.ListNames a told m n by = by
-by_state (steps.GcStart percent) a told m n by = by
-by_state steps.GcStep a told m n by = by
-by_state steps.Stat a told m n by = by
-by_state steps.Unique a told m n by = by
+by_state other a told m n by = by
 
 module _ {followed : Bool} (e : Event) (old new : CoreState) (m : M) (at : IsMachine followed m old) (follows : followed ≡ true → Follows e.answer old) where
   abbrev step : Asked Root

@@ -128,14 +128,9 @@ set_at (x ∷ ps) (y ∷ qs) (suc i) p q same one = (same.0, set_at ps qs i p q 
 
 kind_same : (p : RootPart) (q : core_part.Part) → SamePart p q → core_kinds.kind_of q ≡ kind_of p
 kind_same Idle core.Idle same = refl
-kind_same Idle (core.Writing pins) same = absurd same
-kind_same Idle (core.Reading reader) same = absurd same
-kind_same (Writing pins) core.Idle same = absurd same
 kind_same (Writing pins) (core.Writing others) same = refl
-kind_same (Writing pins) (core.Reading reader) same = absurd same
-kind_same (Reading root rest) core.Idle same = absurd same
-kind_same (Reading root rest) (core.Writing pins) same = absurd same
 kind_same (Reading root rest) (core.Reading reader) same = refl
+kind_same other it same = absurd same
 
 idle_so : (p : RootPart) → kind_of p ≡ kinds.Idle → p ≡ Idle
 idle_so Idle is = refl

@@ -7,7 +7,6 @@ use Rattle.copy_forward.specs.Entries.{IsRemoveRefusal, MapStays}
 use Rattle.copy_forward.specs.Headers.{IsHeaderRefusal}
 use Rattle.copy_forward.specs.Planning.{IsPlanRefusal, IsStuck}
 use Rattle.gc_enumerate.specs.declared.fault.ScanFault.{ScanFault}
-use Rattle.gc_enumerate.specs.declared.fault.ScanFault.TheVariants as faults
 use Rattle.gc_sweep.specs.declared.sweep.Next.TheVariants as nexts
 use Rattle.gc_sweep.specs.Copying.{IsCopyStepRefusal, copy_step}
 use Rattle.gc_sweep.specs.Flushing.{IsFlushStepRefusal}
@@ -26,6 +25,7 @@ use Rattle.core_machine.proofs.FreedSources.{in_turn}
 use Rattle.core_machine.proofs.Phases.{Runs, is_collecting}
 use Rattle.core_machine.proofs.Rows.{M, as_it_was, same_at, stopped_at}
 use Rattle.core_machine.proofs.SweptOn.{at_sweep}
+use Rattle.gc_enumerate.specs.declared.fault.ScanFault.TheVariants as faults
 
 -- ---- what a step may be refused by, if no write failed
 
@@ -80,10 +80,7 @@ header_unmade phase may t old new slot refusal is = absurd is
 
 fault_unmade : (fault : ScanFault) → Unmade phases.Mark (step_refusal fault)
 fault_unmade faults.DiskRead = tt
-fault_unmade (faults.Damaged at why) = tt
-fault_unmade (faults.Corrupt slot offset count want got) = tt
-fault_unmade (faults.Missing key) = tt
-fault_unmade faults.Memory = tt
+fault_unmade other = tt
 
 mark_unmade : (t : SlotTable) (known : Option PlaceMap) (old new : DiskView) (level slot : ℕ) (live : LiveKeys) (refusal : Refusal)
     → IsMarkRefusal t known old new level slot live refusal → Unmade phases.Mark refusal

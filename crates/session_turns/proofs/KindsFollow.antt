@@ -136,11 +136,7 @@ module _ (a : ℕ) (buf : List ℕ) (old new : CoreState) (below : a < length ol
 
 refused_kind : (step : StepValue) (refusal : Refusal) (kind : PartKind) → kind_after step (Err refusal) kind ≡ kind
 refused_kind steps.Begin refusal kind = refl
-refused_kind (steps.Commit name root) refusal kind = refl
-refused_kind steps.Abort refusal kind = refl
-refused_kind (steps.OpenRead name) refusal kind = refl
-refused_kind steps.EndRead refusal kind = refl
-refused_kind step refusal kind = refl
+refused_kind other refusal kind = refl
 
 -- ---- what is given up
 

@@ -1,5 +1,5 @@
 -- What a step leaves of the disk: it is the same one, later, and its count of faults tells what was answered.
-use Rattle.std.proofs.Common.{◌≡◌, ℕ, Option, Some, None, Result, sym, subst}
+use Rattle.std.proofs.Common.{ℕ, Option, Some, None, Result, sym, subst}
 use Rattle.dd_disk.specs.Ending.{Ending, Done, CountsFault, ending}
 use Rattle.dd_disk.specs.View.{DiskView, IsLater}
 use Rattle.dd_disk.proofs.Later.{later_on}
@@ -28,20 +28,8 @@ went_on by old mid new first second = record {
 
 module _ (old new : CoreState) where
   effect_faults : (step : StepValue) (answer : Result Answer Refusal) → Effect step answer old new → CountsFault (ending blames answer) old.disk.faults new.disk.faults
-  effect_faults asked.Begin answer effect = effect.disk.faults_are
-  effect_faults (asked.Claim seg) answer effect = effect.disk.faults_are
-  effect_faults (asked.Seal filled) answer effect = effect.disk.faults_are
-  effect_faults (asked.Commit name root) answer effect = effect.disk.faults_are
-  effect_faults asked.Abort answer effect = effect.disk.faults_are
-  effect_faults (asked.OpenRead name) answer effect = effect.disk.faults_are
-  effect_faults asked.ReadNext answer effect = effect.disk.faults_are
-  effect_faults asked.EndRead answer effect = effect.disk.faults_are
-  effect_faults (asked.Delete name) answer effect = effect.disk.faults_are
-  effect_faults asked.ListNames answer effect = effect.disk.faults_are
-  effect_faults (asked.GcStart percent) answer effect = effect.disk.faults_are
   effect_faults asked.GcStep answer effect = effect.faults_are
-  effect_faults asked.Stat answer effect = effect.disk.faults_are
-  effect_faults asked.Unique answer effect = effect.disk.faults_are
+  effect_faults other answer effect = effect.disk.faults_are
 
   step_faults : (e : Event) (stop : Option Stop) → StepsOr stop e old new → CountsFault (ending blames e.answer) old.disk.faults new.disk.faults
   step_faults e None steps = effect_faults e.step e.answer steps.made.effect

@@ -1,20 +1,12 @@
 -- Turns of a session, one after the other.
-use Rattle.std.proofs.Common.{◌≡◌, ◌<◌, ℕ, List, [], ◌∷◌, ◌++◌, Option, Some, None, Result, Ok, Err, refl, sym, subst, append_assoc}
-use Rattle.std.specs.Prelude.{IfOk}
-use Rattle.actor_parts.specs.Asking.{IsAnswerTo}
+use Rattle.std.proofs.Common.{◌<◌, ℕ, List, [], ◌∷◌, ◌++◌, Option, Some, None, Ok, Err, refl, sym, subst, append_assoc}
 use Rattle.std.proofs.lemmas.List.{append-nil}
-use Rattle.container_meta.specs.Segments.{KindSegment}
-use Rattle.container_meta.specs.declared.kind.Kind.{Kind}
 use Rattle.actor_parts.specs.declared.step.Answer.{Answer}
 use Rattle.actor_parts.specs.declared.step.Answer.TheVariants as answers
-use Rattle.actor_parts.specs.StepValue as asked
 use Rattle.refusals.specs.declared.refusal.Refusal.{Refusal}
-use Rattle.ingest_session.specs.declared.due.Due.TheVariants.{Claim, Seal}
-use Rattle.ingest_session.specs.Due.{due_in, offered_in}
 use Rattle.ingest_session.specs.History.{HasHistory}
 use Rattle.ingest_session.specs.Settling.{most_waiting, seen}
 use Rattle.ingest_session.specs.State.{SessionState}
-use Rattle.ingest_session.specs.Told.{IsAnswerFor}
 use Rattle.store_core.specs.State.{CoreState}
 use Rattle.session_turns.specs.Turning.{AllForRoom, Doing, IsCrowded, IsPaused, Maker, MakesRoomBy, RunBy, TakesTurnBy, TakesTurnsBy, Turn, does, session_at}
 use Rattle.session_turns.specs.Turns.{TurnRun, core_maker}

@@ -147,11 +147,6 @@ module _ (a : ℕ) (buf : List ℕ) (old new : CoreState) where
 
   -- so it is after each step that was refused
   refused_rests : (step : StepValue) (refusal : Refusal) → Row step a (Err refusal) buf old new → Rested
-  refused_rests steps.Begin refusal row = same_rests a old.parts new.parts row.1
-  refused_rests (steps.Claim seg) refusal row = same_rests a old.parts new.parts row.1
-  refused_rests (steps.Seal filled) refusal row = same_rests a old.parts new.parts row.1
-  refused_rests (steps.Commit name root) refusal row = same_rests a old.parts new.parts row.1
-  refused_rests steps.Abort refusal row = same_rests a old.parts new.parts row.1
   refused_rests (steps.OpenRead name) refusal row = row_rests (steps.OpenRead name) (Err refusal) tt row
   refused_rests steps.ReadNext refusal row = row_rests steps.ReadNext (Err refusal) tt row
   refused_rests steps.EndRead refusal row = row_rests steps.EndRead (Err refusal) tt row
@@ -161,6 +156,7 @@ module _ (a : ℕ) (buf : List ℕ) (old new : CoreState) where
   refused_rests steps.GcStep refusal row = row_rests steps.GcStep (Err refusal) tt row
   refused_rests steps.Stat refusal row = row_rests steps.Stat (Err refusal) tt row
   refused_rests steps.Unique refusal row = row_rests steps.Unique (Err refusal) tt row
+  refused_rests other refusal row = same_rests a old.parts new.parts row.1
 
 module _ (e : Event) (old new : CoreState) where
   quiet_by : (stop : Option Stop) → IsQuiet e.step → StepsOr stop e old new → Rests e.actor old.parts new.parts

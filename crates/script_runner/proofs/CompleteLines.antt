@@ -11,15 +11,12 @@ use Rattle.store_machine.specs.Lines.{Acts, Admits, Bars, IsStep, StopsAfter, Tu
 use Rattle.store_machine.specs.Opening.{Reopens}
 use Rattle.store_machine.specs.Twins.{GivesTwins, IsGivenAt}
 use Rattle.store_machine.proofs.IngestStore.{IsRefusal, unrefused}
-use Rattle.store_machine.proofs.Quiet.{told_ok}
+use Rattle.store_machine.proofs.Quiet.{same_refusal, told_ok}
 use Rattle.store_machine.proofs.TwinSteps.{due_opens}
 use Rattle.store_machine.proofs.Writers.{IsOther, no_opening}
 use Rattle.script_runner.proofs.CompleteNodes.{PieceAmong, due_node, no_clash, no_twins}
 use Rattle.script_runner.proofs.CompleteSteps.{Left, NoClash, opening_left, step_left, step_runs}
 use Rattle.script_runner.proofs.CompleteTrace.{Content, DoesAmong, Made, Step, made_as, made_parts}
-
-same_refusal : (a b : Refusal) → replies.Refused a ≡ replies.Refused b → a ≡ b
-same_refusal a b is = cc
 
 -- the disk tells something
 abbrev pub Tells : Content → Type 0

@@ -1,7 +1,7 @@
 -- Where no two different nodes on the way have one digest, nothing that is given has twins, and no copy that is held clashes with it.
-use Rattle.script_runner.proofs.Prelude.{◌≡◌, inl, inr, ◌∙◌, ℕ, Bool, List, [], ◌∷◌, ◌++◌, Option, Some, None, refl, sym, ap, subst, arith, length, AllByRecursion, byte_at, Kind, Leaf, Tree, Contents, KindSegment, Segment, segment_key, Difference, HasNoCollisions, Piece, Data, Node, HasPieceOf, IsPieceOf, offered_in, History, HasHistory, turn_of, IsItem, IsOffered, SessionState, turn_node, turns_are_pieces, one_of, Asked, HasSegment, IsDueStep, Session, of_files, ClashesWith, IsHeldNode}
+use Rattle.script_runner.proofs.Prelude.{◌≡◌, inl, inr, ◌∙◌, ℕ, Bool, List, [], ◌∷◌, ◌++◌, Option, Some, None, refl, sym, ap, subst, arith, length, AllByRecursion, byte_at, Kind, Tree, Contents, KindSegment, segment_key, Difference, HasNoCollisions, Piece, Data, Node, HasPieceOf, IsPieceOf, offered_in, History, HasHistory, turn_of, IsItem, IsOffered, SessionState, turn_node, turns_are_pieces, one_of, Asked, HasSegment, IsDueStep, Session, of_files, ClashesWith, IsHeldNode}
 use Rattle.ingest_session.proofs.Members.{all_then}
-use Rattle.std.proofs.Common.{slice_get, append-nil}
+use Rattle.std.proofs.Common.{append-nil}
 use Rattle.sha2.specs.Sha256.{sha256}
 use Rattle.base_model.specs.Bytes.{key_of}
 use Rattle.merkle_file.specs.Node as node

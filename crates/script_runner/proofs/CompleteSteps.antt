@@ -36,21 +36,8 @@ does_run a asked.GcStep (done.Did phase) m n none runs does = ap (λ (x : FileMa
 does_run a asked.GcStep (done.Collected freed copied) m n none runs does = ap (λ (x : FileMachine). x.state) does.others ∙ runs
 does_run a asked.Stat (done.Counted files segments bytes used free) m n none runs (is, others) = ap (λ (x : FileMachine). x.state) others ∙ runs
 does_run a asked.Unique (done.Unique segments bytes) m n none runs (is, others) = ap (λ (x : FileMachine). x.state) others ∙ runs
-does_run a asked.Begin answer m n none runs does = absurd does
-does_run a (asked.Claim seg) answer m n none runs does = absurd does
-does_run a (asked.Seal offered) answer m n none runs does = absurd does
-does_run a (asked.Commit name value) answer m n none runs does = absurd does
-does_run a asked.Abort answer m n none runs does = absurd does
-does_run a (asked.OpenRead name) answer m n none runs does = absurd does
-does_run a asked.ReadNext answer m n none runs does = absurd does
-does_run a asked.EndRead answer m n none runs does = absurd does
-does_run a (asked.Delete name) answer m n none runs does = absurd does
-does_run a asked.ListNames answer m n none runs does = absurd does
-does_run a (asked.GcStart percent) answer m n none runs does = absurd does
-does_run a asked.GcStep answer m n none runs does = absurd does
-does_run a asked.Stat answer m n none runs does = absurd does
-does_run a asked.Unique answer m n none runs does = absurd does
 does_run a asked.Reopen answer m n none runs does = absurd none
+does_run a other answer m n none runs does = absurd does
 
 -- ---- one that is refused
 

@@ -9,7 +9,7 @@ use Rattle.actor_parts.specs.Parts.{part_of}
 use Rattle.actor_parts.specs.StepValue as steps
 use Rattle.script_lines.specs.Grammar as lines
 use Rattle.script_lines.specs.ReplyValue as replies
-use Rattle.store_core.proofs.Opened.{stays_runs}
+use Rattle.store_core.proofs.Opened.{opened_runs, stays_runs}
 use Rattle.store_machine.specs.Asked as asked
 use Rattle.store_machine.specs.Done.{Done}
 use Rattle.store_machine.specs.Done as done
@@ -25,10 +25,6 @@ use Rattle.script_runner.proofs.Fitting.{AtDesk, Fitted, Leads, LeavesEither}
 -- a core that was opened runs
 pub read_runs : (before : DiskView) (c : CoreState) → IsReadFrom before c → IsRunning c
 read_runs before c read = new_runs _ before.size c read.reads.only.later.size_is read.opened
-
-pub opened_runs : (D : Type 0) (view : D → DiskView) (old : DiskView) (c : CoreState) → OpensCore D view old c → IsRunning c
-opened_runs D view old c (inl read) = read_runs old c read
-opened_runs D view old c (inr (mid, (made, read))) = read_runs (view mid) c read
 
 pub opened_parts : (D : Type 0) (view : D → DiskView) (old : DiskView) (c : CoreState) → OpensCore D view old c → c.parts ≡ replicate ACTORS core_parts.Idle
 opened_parts D view old c (inl read) = read.opened.parts_are

@@ -109,7 +109,6 @@ module _ (F : Fitted) where
         subst (λ (x : Refusal). machine.Bars v line d x) (sym bars) (stops.0, stops.1)
     bars_by line refusal None is bars =
         let a = bars.0 in
-        let kind = kind_in r.sessions (state r.core).parts a in
         subst (λ (x : Refusal). machine.Bars v line d x) (sym bars.3)
         (fitting.runs d.machine (state r.core) at.fits is, (a, bars.1, sym (kinds_so a), bars.2))
 

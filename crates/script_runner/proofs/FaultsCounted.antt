@@ -1,8 +1,8 @@
 -- What lines leave of the disk: it is the same one, later, and its count of faults tells what was refused.
 use Rattle.actor_parts.specs.declared.step.Answer.TheVariants as answers
-use Rattle.script_runner.proofs.Prelude.{◌≡◌, ◌⊎◌, inl, inr, ◌+◌, ◌≤◌, ℕ, Bool, true, false, if◌then◌else◌, List, [], ◌∷◌, Option, Some, None, Result, Ok, Err, refl, sym, ap, subst, arith, nat_lt, MOST_FILE, DiskView, IsLater, later_here, later_on, Answer, StepValue, Refusal, LineValue, pushed_bytes, ReplyValue, Due, Claim, Seal, Nothing, IsPushAnswer, due_in, SessionState, Stop, CoreStep, Effect, StepsOr, OpensCore, OpensNone, CoreState, Event, step_later, Asks, Feeds, IsPaused, IsRefusedTurn, TakesTurn, TurnRun, TurnsStopped, ActsReopen, ActsOrNot, BarsBy, RefusesPut, RefusesStep, RunnerState, RunsLine, CollectionRun, Sweeps, Sessions, Phase}
+use Rattle.script_runner.proofs.Prelude.{◌≡◌, ◌⊎◌, inl, inr, ◌+◌, ◌≤◌, ℕ, Bool, true, false, if◌then◌else◌, List, [], ◌∷◌, Option, Some, None, Result, Ok, Err, refl, sym, ap, subst, arith, nat_lt, MOST_FILE, DiskView, later_here, later_on, Answer, StepValue, Refusal, LineValue, pushed_bytes, ReplyValue, Due, Claim, Seal, Nothing, IsPushAnswer, due_in, SessionState, Stop, OpensCore, OpensNone, CoreState, Asks, Feeds, IsPaused, IsRefusedTurn, TakesTurn, TurnRun, TurnsStopped, ActsReopen, ActsOrNot, BarsBy, RefusesPut, RefusesStep, RunnerState, RunsLine, CollectionRun, Sweeps, Sessions, Phase}
 use Rattle.base_model.specs.Fault.{Rose}
-use Rattle.dd_disk.specs.Ending.{Ending, Done, Refused, CountsFault, ending, ending_of}
+use Rattle.dd_disk.specs.Ending.{Ending, Done, Refused, ending, ending_of}
 use Rattle.actor_parts.specs.Counts.{Counts}
 use Rattle.actor_parts.specs.StepValue as asked
 use Rattle.refusals.specs.declared.refusal.Refusal.TheVariants as refusals

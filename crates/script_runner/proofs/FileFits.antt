@@ -9,6 +9,7 @@ use Rattle.refusals.specs.declared.refusal.Refusal.TheVariants as refusals
 use Rattle.store_model.specs.Collisions.{IsIn}
 use Rattle.store_core.specs.Runs.{AreAmong, IsGivenRight}
 use Rattle.store_core.proofs.CoreRuns.{was_running}
+use Rattle.store_core.proofs.Opened.{opened_runs}
 use Rattle.session_turns.specs.Owning.{IsAskedFor, IsBeside, IsCutOf, StepsAt}
 use Rattle.session_turns.proofs.TurnSteps.{claim_among, seal_among}
 use Rattle.session_turns.proofs.HeldOn.{holds_begun, holds_beside, holds_turned}
@@ -23,7 +24,7 @@ use Rattle.core_machine.proofs.FileStands.{disk_stands}
 use Rattle.core_machine.proofs.FilesRefined.{refined}
 use Rattle.script_runner.specs.LinesAreFileRuns.{BeginsAtFileDesk, IsCutBy, LinesAreFileRuns, OpenedIsAtDesk, OwnsKept, ScriptsAreFileRuns, beside_files}
 use Rattle.script_runner.proofs.DeskLines.{AllowedBy, line_runs, part_kinds, runs_by, script_runs, stops_by}
-use Rattle.script_runner.proofs.DeskReopens.{idle_give, opened_parts, opened_runs}
+use Rattle.script_runner.proofs.DeskReopens.{idle_give, opened_parts}
 use Rattle.script_runner.proofs.DeskSessions.{none_same}
 use Rattle.script_runner.proofs.Fitting.{Fitted, Fitting, HasTaken, IsOfGiven, IsUnmade, Keeps}
 use Rattle.script_runner.proofs.StillHeld.{still_held}
@@ -114,16 +115,7 @@ module _ (C : Type 0) (state : C → CoreState) (among : ByteSet) (distinct : Ha
       (right.3, subst (λ (l : List ℕ). length l ≤ MOST_FILE) right.1.given_is (bytes_are_counted right.0 right.1.history right.1.has).1),
     )
     given_by steps.Begin right step = (tt, tt, tt)
-    given_by steps.Abort right step = (tt, tt, tt)
-    given_by (steps.OpenRead name) right step = (tt, tt, tt)
-    given_by steps.ReadNext right step = (tt, tt, tt)
-    given_by steps.EndRead right step = (tt, tt, tt)
-    given_by (steps.Delete name) right step = (tt, tt, tt)
-    given_by steps.ListNames right step = (tt, tt, tt)
-    given_by (steps.GcStart percent) right step = (tt, tt, tt)
-    given_by steps.GcStep right step = (tt, tt, tt)
-    given_by steps.Stat right step = (tt, tt, tt)
-    given_by steps.Unique right step = (tt, tt, tt)
+    given_by other right step = (tt, tt, tt)
 
     module _ (n : FileMachine) (made : FileStep S f (state old) (state new)) where
       ran : (state new).stop ≡ None → (state old).stop ≡ None

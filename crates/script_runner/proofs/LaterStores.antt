@@ -1,14 +1,15 @@
 -- A store that is found where the containers of another stay has them.
-use Rattle.script_runner.proofs.Prelude.{◌≡◌, ℕ, zero, suc, ◌+◌, ◌<◌, ◌≤◌, List, [], ◌∷◌, Option, Some, None, refl, sym, ◌∙◌, ap, subst, arith, byte_at, slot_at, HeaderValue, Store, Encodes, KeepsContainers}
+use Rattle.script_runner.proofs.Prelude.{◌≡◌, ℕ, ◌+◌, ◌<◌, ◌≤◌, List, [], Option, Some, None, refl, sym, ◌∙◌, ap, subst, arith, byte_at, slot_at, HeaderValue, Store, Encodes, KeepsContainers}
 use Rattle.std.proofs.Common.{get_or}
 use Rattle.std.specs.Prelude.{slice_get}
 use Rattle.std.proofs.lemmas.Option.{slice_get-get_or}
 use Rattle.base_model.specs.Bytes.{range}
 use Rattle.base_model.proofs.Ranges.{byte-range}
 use Rattle.disk_format.specs.declared.numbers.TheConstants.{CONTAINER_GATE, SLOT_BYTES}
-use Rattle.store_model.specs.Slots.{HoldsSlot, HoldSlots}
+use Rattle.store_model.specs.Slots.{HoldsSlot}
 use Rattle.container_meta.specs.Spelling.{header_size}
 use Rattle.store_model.proofs.Spellings.{gate_of_header}
+use Rattle.store_model.proofs.Freed.{slot_from}
 
 -- ---- bytes
 
@@ -26,17 +27,6 @@ same_first at count old new some same = first_of at count (range at count old) n
 some_same : (a b : Option HeaderValue) → Some a ≡ Some b → a ≡ b
 some_same a b is = cc
 
--- what a slot holds
-slot_of : (from slot : ℕ) (held : List (Option HeaderValue)) (c : Option HeaderValue) (image : List ℕ) → HoldSlots from held image → slice_get held slot ≡ Some c →
-    HoldsSlot image (from + slot) c
-slot_of from slot [] c image holds is = absurd cc
-slot_of from zero (d ∷ ds) c image holds is =
-    let place : from ≡ from + zero = omega arith in
-    subst (λ (k : ℕ). HoldsSlot image k c) place (subst (HoldsSlot image from) (some_same d c is) holds.0)
-slot_of from (suc slot) (d ∷ ds) c image holds is =
-    let place : from + 1 + slot ≡ from + suc slot = omega arith in
-    subst (λ (k : ℕ). HoldsSlot image k c) place (slot_of (from + 1) slot ds c image holds.1 is)
-
 open_slot : (slot : ℕ) (h : HeaderValue) (image : List ℕ) → HoldsSlot image slot (Some h) → byte_at (slot_at slot) image ≡ CONTAINER_GATE
 open_slot slot h image holds = first_of (slot_at slot) (header_size h) _ image (omega arith) holds.1 ∙ gate_of_header h
 
@@ -51,13 +41,13 @@ module _ (s t : Store) (base image : List ℕ) (keeps : KeepsContainers s base i
     still_open : byte_at (slot_at slot) image ≡ CONTAINER_GATE
     still_open =
         let place : 0 + slot ≡ slot = omega arith in
-        let holds = subst (λ (k : ℕ). HoldsSlot base k (Some h)) place (slot_of 0 slot s.held (Some h) base was.slots_are held) in
+        let holds = subst (λ (k : ℕ). HoldsSlot base k (Some h)) place (slot_from 0 slot s.held (Some h) base was.slots_are held) in
         same_first (slot_at slot) SLOT_BYTES base image (omega arith) (keeps.slots slot within (h, held)) ∙ open_slot slot h base holds
 
     held_by : (c : Option HeaderValue) → slice_get t.held slot ≡ Some c → (g : HeaderValue) × (slice_get t.held slot ≡ Some (Some g))
     held_by None now =
         let place : 0 + slot ≡ slot = omega arith in
-        let closed = subst (λ (k : ℕ). HoldsSlot image k None) place (slot_of 0 slot t.held None image is.slots_are now) in
+        let closed = subst (λ (k : ℕ). HoldsSlot image k None) place (slot_from 0 slot t.held None image is.slots_are now) in
         absurd (closed still_open)
     held_by (Some g) now = (g, now)
 

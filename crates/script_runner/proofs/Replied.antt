@@ -13,67 +13,23 @@ printed items (Err e) reply none is = none
 
 module _ (C : Type 0) (state : C → CoreState) where
   -- a line but a commit or a delete acknowledges none
+  none_done : (line : LineValue) (actor sequence number : ℕ) (r s : RunnerState C) → IsPlain line
+      → ¬ (Acts C state line (replies.Committed actor sequence) r s) × ¬ (Acts C state line (replies.Deleted number) r s)
+  none_done (lines.Commit a name) actor sequence number r s plain = absurd plain
+  none_done (lines.Next a) actor sequence number r s plain = absurd plain
+  none_done (lines.Delete name) actor sequence number r s plain = absurd plain
+  none_done lines.ListNames actor sequence number r s plain = absurd plain
+  none_done lines.Reopen actor sequence number r s plain = absurd plain
+  none_done line actor sequence number r s plain = (λ acts. acts, λ acts. acts)
+
   pub plain_reply : (line : LineValue) (reply : ReplyValue) (r s : RunnerState C) → IsPlain line → Acts C state line reply r s → ¬ (IsAcknowledged reply)
-  plain_reply line (replies.Committed b q) r s plain acts ack = by_line line plain acts
-    where
-      by_line : (l : LineValue) → IsPlain l → Acts C state l (replies.Committed b q) r s → ⊥
-      by_line (lines.Begin a) p x = x
-      by_line (lines.Push a digits) p x = x
-      by_line (lines.Finish a) p x = x
-      by_line (lines.Turn a) p x = x
-      by_line (lines.Commit a name) p x = p
-      by_line (lines.Abort a) p x = x
-      by_line (lines.Read a name) p x = x
-      by_line (lines.Next a) p x = p
-      by_line (lines.Drop a) p x = x
-      by_line (lines.Delete name) p x = p
-      by_line lines.ListNames p x = p
-      by_line (lines.Gc percent) p x = x
-      by_line lines.GcStep p x = x
-      by_line lines.Sweep p x = x
-      by_line lines.Stat p x = x
-      by_line lines.Unique p x = x
-      by_line lines.Reopen p x = p
-  plain_reply line (replies.Deleted q) r s plain acts ack = by_line line plain acts
-    where
-      by_line : (l : LineValue) → IsPlain l → Acts C state l (replies.Deleted q) r s → ⊥
-      by_line (lines.Begin a) p x = x
-      by_line (lines.Push a digits) p x = x
-      by_line (lines.Finish a) p x = x
-      by_line (lines.Turn a) p x = x
-      by_line (lines.Commit a name) p x = p
-      by_line (lines.Abort a) p x = x
-      by_line (lines.Read a name) p x = x
-      by_line (lines.Next a) p x = p
-      by_line (lines.Drop a) p x = x
-      by_line (lines.Delete name) p x = p
-      by_line lines.ListNames p x = p
-      by_line (lines.Gc percent) p x = x
-      by_line lines.GcStep p x = x
-      by_line lines.Sweep p x = x
-      by_line lines.Stat p x = x
-      by_line lines.Unique p x = x
-      by_line lines.Reopen p x = p
+  plain_reply line (replies.Committed actor sequence) r s plain acts ack = (none_done line actor sequence 0 r s plain).0 acts
+  plain_reply line (replies.Deleted number) r s plain acts ack = (none_done line 0 0 number r s plain).1 acts
   plain_reply line reply r s plain acts ack = ack
 
   runs_so : (line : LineValue) (reply : ReplyValue) (r s : RunnerState C) → line ≢ lines.Reopen → ActsOrNot C state line reply r s → RunsLine C state line reply r s
-  runs_so (lines.Begin a) reply r s other so = so
-  runs_so (lines.Push a digits) reply r s other so = so
-  runs_so (lines.Finish a) reply r s other so = so
-  runs_so (lines.Turn a) reply r s other so = so
-  runs_so (lines.Commit a name) reply r s other so = so
-  runs_so (lines.Abort a) reply r s other so = so
-  runs_so (lines.Read a name) reply r s other so = so
-  runs_so (lines.Next a) reply r s other so = so
-  runs_so (lines.Drop a) reply r s other so = so
-  runs_so (lines.Delete name) reply r s other so = so
-  runs_so lines.ListNames reply r s other so = so
-  runs_so (lines.Gc percent) reply r s other so = so
-  runs_so lines.GcStep reply r s other so = so
-  runs_so lines.Sweep reply r s other so = so
-  runs_so lines.Stat reply r s other so = so
-  runs_so lines.Unique reply r s other so = so
   runs_so lines.Reopen reply r s other so = absurd (other refl)
+  runs_so it reply r s other so = so
 
   -- it was taken
   pub taken : (line : LineValue) (told : ReplyValue → Type 0) (r s : RunnerState C) → line ≢ lines.Reopen → Admits line r.sessions (state r.core) →

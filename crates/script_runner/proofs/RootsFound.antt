@@ -1,5 +1,5 @@
 -- What has been opened on any disk, as the machine of roots: a store that reads showed, whose records name the roots of its names.
-use Rattle.script_runner.proofs.Prelude.{◌≡◌, ◌≤◌, inl, inr, ◌∙◌, List, [], ◌∷◌, Option, Some, None, refl, sym, AllByRecursion, Shows, DiskView, IsLater, later_here, Root, Top, Store, OpensCore, CoreState, Machine, false}
+use Rattle.script_runner.proofs.Prelude.{◌≡◌, ◌≤◌, inl, inr, ◌∙◌, List, [], Option, Some, None, refl, sym, Shows, DiskView, IsLater, later_here, Root, Top, Store, OpensCore, CoreState, Machine, false}
 use Rattle.dd_disk.specs.Shows.{Part}
 use Rattle.std.specs.Prelude.{option_map}
 use Rattle.store_model.specs.Image.{Encodes}
@@ -8,10 +8,7 @@ use Rattle.store_machine.specs.Values.{of_roots}
 use Rattle.core_machine.specs.Openings.{store_read}
 use Rattle.core_machine.specs.Refines.{IsMachine}
 use Rattle.script_runner.specs.Shown.{WasShown}
-
-map_all : {A : Type 0} (P Q : A → Type 0) (xs : List A) → ((x : A) → P x → Q x) → AllByRecursion P xs → AllByRecursion Q xs
-map_all P Q [] each all = tt
-map_all P Q (x ∷ xs) each all = (each x all.0, map_all P Q xs each all.1)
+use Rattle.ingest_session.proofs.Members.{all_then}
 
 -- ---- what was shown
 
@@ -19,7 +16,7 @@ map_all P Q (x ∷ xs) each all = (each x all.0, map_all P Q xs each all.1)
 pub shown_in : (v old mid w : DiskView) (store : Store) → IsLater v old → old.clock ≤ mid.clock → IsLater mid w → Shows old mid (λ image. Encodes image store) → WasShown v w store
 shown_in v old mid w store before between after shown = record {
   parts = shown.parts;
-  returned = map_all (λ (part : Part). mid.read_returned old.clock part.at part.bytes) (λ (part : Part). w.read_returned v.clock part.at part.bytes) shown.parts
+  returned = all_then (λ (part : Part). mid.read_returned old.clock part.at part.bytes) (λ (part : Part). w.read_returned v.clock part.at part.bytes) shown.parts
       (λ part was. w.returned_earlier v.clock old.clock part.at part.bytes before.clock_is (after.returned old.clock part.at part.bytes between was)) shown.returned;
   shows = λ image sized has. shown.shows image (sized ∙ sym before.size_is) has;
 }
@@ -28,7 +25,7 @@ shown_in v old mid w store before between after shown = record {
 pub shown_longer : (v old mid w : DiskView) (store : Store) → IsLater v old → old.clock ≤ mid.clock → IsLater mid w → WasShown old mid store → WasShown v w store
 shown_longer v old mid w store before between after shown = record {
   parts = shown.parts;
-  returned = map_all (λ (part : Part). mid.read_returned old.clock part.at part.bytes) (λ (part : Part). w.read_returned v.clock part.at part.bytes) shown.parts
+  returned = all_then (λ (part : Part). mid.read_returned old.clock part.at part.bytes) (λ (part : Part). w.read_returned v.clock part.at part.bytes) shown.parts
       (λ part was. w.returned_earlier v.clock old.clock part.at part.bytes before.clock_is (after.returned old.clock part.at part.bytes between was)) shown.returned;
   shows = λ image sized has. shown.shows image (sized ∙ sym before.size_is) has;
 }

@@ -1,5 +1,5 @@
 -- How many steps a sweep still makes at most.
-use Rattle.script_runner.proofs.Prelude.{◌≡◌, ◌<◌, ℕ, List, [], ◌∷◌, ◌++◌, length, Option, Some, None, Ok, refl, sym, ap, subst, arith, Phase, SlotTable, Collection, CoreState, Event, IsRunning, IsUp, UnlessStopped, Stop, running_step, CollectionRun, Collects}
+use Rattle.script_runner.proofs.Prelude.{◌≡◌, ◌<◌, ℕ, List, [], ◌∷◌, ◌++◌, length, Option, Some, None, Ok, refl, sym, ap, subst, arith, Phase, SlotTable, Collection, CoreState, Event, IsRunning, running_step, CollectionRun, Collects}
 use Rattle.std.proofs.Common.{max}
 use Rattle.actor_parts.specs.declared.step.Answer.TheVariants as answers
 use Rattle.actor_parts.specs.StepValue as asked
@@ -8,6 +8,7 @@ use Rattle.gc_steps.specs.StepsToCome.{old_from, steps_to_come}
 use Rattle.gc_steps.proofs.FewSources.{few_step}
 use Rattle.store_core.specs.Collecting.{GoesOn}
 use Rattle.store_core.specs.State.{IsUnderWayIn}
+use Rattle.store_core.proofs.Making.{up_of}
 
 -- ---- the sources, and the steps that come
 
@@ -53,9 +54,6 @@ left_on most phase old new under few goes =
 
 -- ---- a step of a sweep
 
-up_here : (c : CoreState) → c.stop ≡ None → IsRunning c → IsUp c
-up_here c runs running = subst (λ (stop : Option Stop). UnlessStopped stop (IsUp c)) runs running
-
 pub record SweptOn (most : ℕ) (old new : CoreState) : Type 0 where
   pub runs : new.stop ≡ None
   pub few : IsFewIn most new
@@ -68,7 +66,7 @@ module _ (C : Type 0) (state : C → CoreState) where
   swept_on most phase old new running runs few collects =
       let e : Event = record { actor = 0; step = asked.GcStep; answer = Ok (answers.Did phase); buf = collects.0 } in
       let steps = running_step (state old) (state new) e runs collects.1 in
-      let under = (up_here (state old) runs running).under_way in
+      let under = (up_of (state old) runs running).under_way in
       record {
         runs = steps.stops;
         few = few_on most phase (state old) (state new) under few steps.made.row.0;

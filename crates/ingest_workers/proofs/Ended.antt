@@ -30,7 +30,8 @@ module _ {S : Type 0} (asks : Asks S) (jobs : List Job) where
         let one = did number x.0 here in
         let own = one.own in
         let x_is : (get_or ws number x.0).caller ≡ get_or old number d = ap (λ (w : Worker S). w.caller) (x.1 x.0) ∙ sym x.2 ∙ ap (λ (l : List S). get_or l number d) old_is in
-        let y_is : (get_or vs number x.0).caller ≡ get_or new number d = ap (λ (w : Worker S). w.caller) (y.1 x.0) ∙ sym y.2 ∙ ap (λ (l : List S). get_or l number d) (sym new_is) in
+        let y_is : (get_or vs number x.0).caller ≡ get_or new number d = ap (λ (w : Worker S). w.caller) (y.1 x.0) ∙ sym y.2
+        ∙ ap (λ (l : List S). get_or l number d) (sym new_is) in
         let same = same_own (length ws) number jobs (get_or vs number x.0).desk.ends.items ended own.0 gathered.many
         (λ i j e in_jobs mine. sym (gathered.each i j x.0 e in_jobs ∙ ap (λ (n : ℕ). get_or (get_or vs n x.0).desk.ends.items i e)
         (ap (λ (n : ℕ). (get_or jobs i j).number % n) many ∙ mine))) own.2 in

@@ -1,9 +1,9 @@
 -- A file that a caller gives, among the steps of others.
-use Rattle.std.proofs.Common.{◌≡◌, ◌≢◌, ◌⊎◌, inl, inr, ℕ, ◌==◌, Bool, true, false, List, [], ◌∷◌, ◌++◌, reverse, Ok, refl, sym, ap, ◌∙◌, subst, append_assoc, append-nil, eq-eqb, ne_eqb, if◌then◌else◌}
+use Rattle.std.proofs.Common.{◌≡◌, ◌≢◌, inl, ℕ, ◌==◌, Bool, true, false, List, [], ◌∷◌, ◌++◌, reverse, refl, sym, ap, ◌∙◌, subst, append_assoc, append-nil, eq-eqb, ne_eqb, if◌then◌else◌}
 use mathlib.Core.Logic.{dite}
 use native.Mathlib.Decide.{ℕ_discrete}
 use Rattle.std.specs.List.{AllByRecursion}
-use Rattle.std.proofs.lemmas.List.{reverse-append}
+use Rattle.std.proofs.lemmas.List.{reverse-append, reverse-reverse}
 use Rattle.actor_parts.specs.Asking.{Ask}
 use Rattle.actor_parts.specs.StepValue.{StepValue}
 use Rattle.load_stream.specs.Load.{LoadState}
@@ -15,17 +15,16 @@ use Rattle.session_turns.specs.Owning.{Ingests, IsAskedFor, IsBeside}
 use Rattle.session_turns.proofs.TurnSteps.{ingests_beside}
 use Rattle.ingest_workers.specs.Giving.{Begun, Given, Gives, Turned}
 use Rattle.ingest_workers.specs.Ingesting.{GivesAreIngests, ask_of, asks_by}
-use Rattle.ingest_workers.proofs.Seats.{reverse_twice}
 
 -- ---- the last of a list
 
-snoc_parts : {X : Type 0} (xs ys : List X) (x y : X) → xs ++ x ∷ [] ≡ ys ++ y ∷ [] → (xs ≡ ys) × (x ≡ y)
+pub snoc_parts : {X : Type 0} (xs ys : List X) (x y : X) → xs ++ x ∷ [] ≡ ys ++ y ∷ [] → (xs ≡ ys) × (x ≡ y)
 snoc_parts xs ys x y same =
     let turned : x ∷ reverse xs ≡ y ∷ reverse ys = sym (reverse-append xs (x ∷ [])) ∙ ap reverse same ∙ reverse-append ys (y ∷ []) in
     let rest : reverse xs ≡ reverse ys = cc in
-    (sym (reverse_twice xs) ∙ ap reverse rest ∙ reverse_twice ys, cc)
+    (sym (reverse-reverse xs) ∙ ap reverse rest ∙ reverse-reverse ys, cc)
 
-none_last : {X : Type 0} (xs : List X) (x : X) → [] ≢ xs ++ x ∷ []
+pub none_last : {X : Type 0} (xs : List X) (x : X) → [] ≢ xs ++ x ∷ []
 none_last [] x same = absurd (cc)
 none_last (y ∷ xs) x same = absurd (cc)
 

@@ -93,11 +93,7 @@ due_stays due s step kind asks result = absurd asks
 
 refused_stays : (step : StepValue) (refusal : Refusal) (kind : PartKind) → kind_after step (Err refusal) kind ≡ kind
 refused_stays asked.Begin refusal kind = refl
-refused_stays (asked.Commit name root) refusal kind = refl
-refused_stays asked.Abort refusal kind = refl
-refused_stays (asked.OpenRead name) refusal kind = refl
-refused_stays asked.EndRead refusal kind = refl
-refused_stays step refusal kind = refl
+refused_stays other refusal kind = refl
 
 gives_writing : (file : LoadState) (all : List Ask) (h : History) → Gives file all h → (after : PartKind) → Went kinds.Idle all after → after ≡ kinds.Writing
 gives_writing file all h (Begun a step done) after went = by_step a kinds.Idle after went asked.Begin step (Ok done.0) done.1

@@ -72,18 +72,7 @@ module _ (own : ℕ → List LoadState) where
   step_stays actor (asked.Delete n) (Ok answer) bytes stored is has = λ name found there.
       gone_stays stored.files has name found (bytes_eq name n) (sym (got_without stored.files n name (bytes_eq name n) refl) ∙ there)
   step_stays actor (asked.Delete n) (Err refusal) bytes stored is has = has
-  step_stays actor asked.Begin answer bytes stored is has = has
-  step_stays actor (asked.Claim seg) answer bytes stored is has = has
-  step_stays actor (asked.Seal offered) answer bytes stored is has = has
-  step_stays actor asked.Abort answer bytes stored is has = has
-  step_stays actor (asked.OpenRead name) answer bytes stored is has = has
-  step_stays actor asked.ReadNext answer bytes stored is has = has
-  step_stays actor asked.EndRead answer bytes stored is has = has
-  step_stays actor asked.ListNames answer bytes stored is has = has
-  step_stays actor (asked.GcStart percent) answer bytes stored is has = has
-  step_stays actor asked.GcStep answer bytes stored is has = has
-  step_stays actor asked.Stat answer bytes stored is has = has
-  step_stays actor asked.Unique answer bytes stored is has = has
+  step_stays actor other answer bytes stored is has = has
 
 pub streams_stay : StreamsStay
 streams_stay own [] stored each has = has
@@ -120,18 +109,7 @@ module _ (own : ℕ → List LoadState) (name : List ℕ) where
   step_fits actor (asked.Commit n root) (Err refusal) bytes stored is = refl
   step_fits actor (asked.Delete n) (Ok answer) bytes stored is = gone_fits stored.files (bytes_eq name n) _ (got_without stored.files n name (bytes_eq name n) refl)
   step_fits actor (asked.Delete n) (Err refusal) bytes stored is = refl
-  step_fits actor asked.Begin answer bytes stored is = refl
-  step_fits actor (asked.Claim seg) answer bytes stored is = refl
-  step_fits actor (asked.Seal offered) answer bytes stored is = refl
-  step_fits actor asked.Abort answer bytes stored is = refl
-  step_fits actor (asked.OpenRead n) answer bytes stored is = refl
-  step_fits actor asked.ReadNext answer bytes stored is = refl
-  step_fits actor asked.EndRead answer bytes stored is = refl
-  step_fits actor asked.ListNames answer bytes stored is = refl
-  step_fits actor (asked.GcStart percent) answer bytes stored is = refl
-  step_fits actor asked.GcStep answer bytes stored is = refl
-  step_fits actor asked.Stat answer bytes stored is = refl
-  step_fits actor asked.Unique answer bytes stored is = refl
+  step_fits actor other answer bytes stored is = refl
 
   moved : (a : Option Bool) (found mid before : Option (List ℕ)) → found ≡ mid → Fits a mid before → Fits a found before
   moved None found mid before is fits = is ∙ fits
@@ -265,18 +243,7 @@ module _ (count : ℕ) (jobs : List Job) (ended : List JobEnd) (fs : List FileEv
         by_step (asked.Delete n) (Ok answer) is =
             not_ours name n false (λ same. other (name_owner f.event.actor is.0 name is.1.0 ours (inl (same ∙ is.1.1))))
         by_step (asked.Delete n) (Err refusal) is = refl
-        by_step asked.Begin answer is = refl
-        by_step (asked.Claim seg) answer is = refl
-        by_step (asked.Seal offered) answer is = refl
-        by_step asked.Abort answer is = refl
-        by_step (asked.OpenRead n) answer is = refl
-        by_step asked.ReadNext answer is = refl
-        by_step asked.EndRead answer is = refl
-        by_step asked.ListNames answer is = refl
-        by_step (asked.GcStart percent) answer is = refl
-        by_step asked.GcStep answer is = refl
-        by_step asked.Stat answer is = refl
-        by_step asked.Unique answer is = refl
+        by_step other answer is = refl
 
     all_leave : (name : List ℕ) → IsOurs name → (gs : List FileEvent) → AreOfStreams own gs → AllByRecursion (LeavesIt own name actor) gs
     all_leave name ours [] each = tt

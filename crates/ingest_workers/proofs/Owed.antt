@@ -178,7 +178,7 @@ own_later : (mine : Bool) (job : Job) (rest : List LoadState) (file : LoadState)
 own_later true job rest file (i, within, is) = (suc i, omega (arith, within), is)
 own_later false job rest file there = there
 
-own_there : (count worker : ℕ) (jobs : List Job) (job : Job) → Contains jobs job → job.number % count ≡ worker → Contains (own_files count worker jobs) (file_of job)
+pub own_there : (count worker : ℕ) (jobs : List Job) (job : Job) → Contains jobs job → job.number % count ≡ worker → Contains (own_files count worker jobs) (file_of job)
 own_there count worker [] job (i, within, is) mine = absurd (omega (arith, within))
 own_there count worker (j ∷ jobs) job (zero, within, is) mine =
     let same : j ≡ job = is in

@@ -55,13 +55,13 @@ module _ (file : LoadState) where
       same_rest (at + suc (length xs)) (suc at + length xs) (suc n - suc (length xs)) (n - length xs) (omega arith) (omega arith) in
       ap (λ (l : List ℕ). x ∷ (xs ++ l)) moved ∙ ap (λ (l : List ℕ). x ∷ l) others ∙ ap (λ (b : ℕ). b ∷ stream_from file (suc at) n) first
 
-  abbrev rest_of : List ℕ → List ℕ
+  abbrev pub rest_of : List ℕ → List ℕ
   rest_of given = stream_from file (0 + length given) (file.length - length given)
 
-  begun : (given : List ℕ) → BeginsFile file given → given ++ rest_of given ≡ stream_of file
+  pub begun : (given : List ℕ) → BeginsFile file given → given ++ rest_of given ≡ stream_of file
   begun given begins = rest_is given 0 file.length begins.few (λ i within. begins.each i within ∙ same_byte i (0 + i) (omega arith))
 
-  none_left : (given : List ℕ) → length given ≡ file.length → rest_of given ≡ []
+  pub none_left : (given : List ℕ) → length given ≡ file.length → rest_of given ≡ []
   none_left given whole = same_rest (0 + length given) (0 + length given) (file.length - length given) 0 refl (omega (arith, whole))
 
   whole_is : (given : List ℕ) → BeginsFile file given → length given ≡ file.length → given ≡ stream_of file
@@ -83,7 +83,7 @@ seal_due : (due : Due) (s : SessionState) (offered : List Contents) → IsAskedF
 seal_due (dues.Seal kind) s offered is = (kind, is)
 seal_due due s offered is = absurd is
 
-ready_done : (ended : Bool) (due : Due) (count : ℕ) (top : Option Top) (root : Root) → ready_by ended due count top ≡ Some root → (ended ≡ true) × (due ≡ dues.Nothing)
+pub ready_done : (ended : Bool) (due : Due) (count : ℕ) (top : Option Top) (root : Root) → ready_by ended due count top ≡ Some root → (ended ≡ true) × (due ≡ dues.Nothing)
 ready_done true dues.Nothing count top root is = (refl, refl)
 ready_done ended due count top root is = absurd (let wrong : ◌≡◌ {A = Option Root} None (Some root) = is in cc)
 
@@ -92,12 +92,12 @@ same_root x y is = cc
 
 -- ---- what was owed at a place
 
-owed_at : (own : List LoadState) (before xs : List Ask) (a : Ask) (ys : List Ask) → AreOwed own before (xs ++ a ∷ ys) → IsOwed own (before ++ xs) a.step
+pub owed_at : (own : List LoadState) (before xs : List Ask) (a : Ask) (ys : List Ask) → AreOwed own before (xs ++ a ∷ ys) → IsOwed own (before ++ xs) a.step
 owed_at own before [] a ys owed = subst (λ (l : List Ask). IsOwed own l a.step) (sym (append-nil before)) owed.0
 owed_at own before (x ∷ xs) a ys owed =
     subst (λ (l : List Ask). IsOwed own l a.step) (append_assoc before (x ∷ []) xs) (owed_at own (before ++ x ∷ []) xs a ys owed.1)
 
-mine_of : (mine : Bool) (a : Ask) (xs ys : List Ask) → (if mine then a ∷ (xs ++ ys) else xs ++ ys) ≡ (if mine then a ∷ xs else xs) ++ ys
+pub mine_of : (mine : Bool) (a : Ask) (xs ys : List Ask) → (if mine then a ∷ (xs ++ ys) else xs ++ ys) ≡ (if mine then a ∷ xs else xs) ++ ys
 mine_of true a xs ys = refl
 mine_of false a xs ys = refl
 
@@ -107,7 +107,7 @@ asks_append actor (f ∷ fs) es =
     ap (λ (l : List Ask). if f.event.actor == actor then ask_of f.event ∷ l else l) (asks_append actor fs es)
     ∙ mine_of (f.event.actor == actor) (ask_of f.event) (asks_by actor fs) (asks_of actor es)
 
-own_first : (e : Event) (es : List Event) → asks_of e.actor (e ∷ es) ≡ ask_of e ∷ asks_of e.actor es
+pub own_first : (e : Event) (es : List Event) → asks_of e.actor (e ∷ es) ≡ ask_of e ∷ asks_of e.actor es
 own_first e es = ap (λ (b : Bool). if b then ask_of e ∷ asks_of e.actor es else asks_of e.actor es) (eq-eqb e.actor e.actor refl)
 
 events_push : (fs : List FileEvent) (f : FileEvent) (es : List Event) → events_of (fs ++ f ∷ []) ++ es ≡ events_of fs ++ f.event ∷ es

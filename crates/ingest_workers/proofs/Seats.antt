@@ -34,10 +34,6 @@ all_one P x is (suc k) d below = absurd (omega (arith, below))
 
 -- ---- lists in reverse
 
-pub reverse_twice : {X : Type 0} (xs : List X) → reverse (reverse xs) ≡ xs
-reverse_twice [] = refl
-reverse_twice (x ∷ xs) = ap reverse (reverse-append (x ∷ []) xs) ∙ reverse-append (reverse xs) (x ∷ []) ∙ ap (λ (l : List _). x ∷ l) (reverse_twice xs)
-
 pub map_reversed : {X Y : Type 0} (f : X → Y) (xs : List X) → map f (reverse xs) ≡ reverse (map f xs)
 map_reversed f [] = refl
 map_reversed f (x ∷ xs) =

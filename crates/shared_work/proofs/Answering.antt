@@ -22,37 +22,13 @@ never_stuck at [] h = h
 never_stuck at (t ∷ ts) h = h
 
 never_refused : (step : StepValue) (actor at : ℕ) (m n : RootMachine) → Refuses of_roots actor (asked_by step) (refusals.Stopped at) m n → ⊥
-never_refused steps.Begin actor at m n h = h.1
-never_refused (steps.Claim seg) actor at m n h = h.1
-never_refused (steps.Seal offered) actor at m n h = h.1
-never_refused (steps.Commit name root) actor at m n h = h.1
-never_refused steps.Abort actor at m n h = h.1
-never_refused (steps.OpenRead name) actor at m n h = h.1
 never_refused steps.ReadNext actor at m n (right, (value, rest, after, part, stays, is)) = never_stuck at after stays.1
-never_refused steps.EndRead actor at m n h = h.1
-never_refused (steps.Delete name) actor at m n h = h.1
-never_refused steps.ListNames actor at m n h = h.1
-never_refused (steps.GcStart percent) actor at m n h = h.1
-never_refused steps.GcStep actor at m n h = h.1
-never_refused steps.Stat actor at m n h = h.1
-never_refused steps.Unique actor at m n h = h.1
+never_refused other actor at m n h = h.1
 
 by_state : (step : StepValue) (actor at : ℕ) (m n : RootMachine) → LegalBy of_roots (asked_by step) actor (Err (refusals.Stopped at)) m n
     → ByState of_roots m.state actor (asked_by step) (Err (refusals.Stopped at)) m n
 by_state steps.Begin actor at m n h = h
-by_state (steps.Claim seg) actor at m n h = h
-by_state (steps.Seal offered) actor at m n h = h
-by_state (steps.Commit name root) actor at m n h = h
-by_state steps.Abort actor at m n h = h
-by_state (steps.OpenRead name) actor at m n h = h
-by_state steps.ReadNext actor at m n h = h
-by_state steps.EndRead actor at m n h = h
-by_state (steps.Delete name) actor at m n h = h
-by_state steps.ListNames actor at m n h = h
-by_state (steps.GcStart percent) actor at m n h = h
-by_state steps.GcStep actor at m n h = h
-by_state steps.Stat actor at m n h = h
-by_state steps.Unique actor at m n h = h
+by_state other actor at m n h = h
 
 never_while : (step : StepValue) (actor at count : ℕ) (m n : RootMachine) (s : RunState Root) (stop : Option Stop) → SameStop count s stop → stop ≡ None
     → ByState of_roots s actor (asked_by step) (Err (refusals.Stopped at)) m n → ⊥

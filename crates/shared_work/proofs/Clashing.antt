@@ -1,5 +1,5 @@
 -- Where no two different nodes have one digest, none clashes.
-use Rattle.std.proofs.Common.{◌≡◌, inl, inr, ◌+◌, ◌-◌, ◌≤◌, ◌<◌, ℕ, zero, suc, true, List, [], ◌∷◌, ◌++◌, length, get_or, take, Option, Some, None, refl, sym, ap, ◌∙◌, subst, arith}
+use Rattle.std.proofs.Common.{◌≡◌, inl, inr, ◌+◌, ℕ, zero, suc, true, List, [], ◌∷◌, ◌++◌, length, take, Option, Some, None, refl, sym, ap, ◌∙◌, subst}
 use Rattle.std.specs.List.{AllByRecursion, Contains}
 use Rattle.base_model.specs.Bytes.{byte_at, key_of}
 use Rattle.sha2.specs.Sha256.{sha256}
@@ -10,8 +10,7 @@ use Rattle.merkle_file.specs.Node as node
 use Rattle.merkle_file.specs.Node.{spelling}
 use Rattle.actor_parts.specs.Asking.{Ask}
 use Rattle.actor_parts.specs.StepValue as steps
-use Rattle.actor_parts.specs.StepValue.{IsStep, StepValue}
-use Rattle.load_stream.specs.Load.{LoadState, byte_of}
+use Rattle.load_stream.specs.Load.{LoadState}
 use Rattle.refusals.specs.declared.refusal.Difference.{Difference}
 use Rattle.refusals.specs.declared.refusal.Difference.TheVariants.{Length, Byte}
 use Rattle.ingest_session.specs.declared.due.Due.{Due}
@@ -34,39 +33,10 @@ use Rattle.store_machine.specs.Offers.{AllSegments, AnyByRecursion}
 use Rattle.store_machine.proofs.OfOneKind.{each_of}
 use Rattle.core_machine.specs.Bytes.{ClashesWith, OneClashes}
 use Rattle.session_turns.specs.Owning.{IsAskedFor}
-use Rattle.ingest_workers.specs.Giving.{BeginsFile, SessionOf}
-use Rattle.ingest_workers.specs.Owing.{IsDueOf, stream_from, stream_of}
+use Rattle.ingest_workers.specs.Giving.{SessionOf}
+use Rattle.ingest_workers.specs.Owing.{IsDueOf, stream_of}
+use Rattle.ingest_workers.proofs.Rightly.{begun, none_left, rest_of}
 use Rattle.shared_work.specs.Clashing.{IsHeldNode, IsNodeOf}
-
--- ---- bytes that begin a file, and the others
-
-module _ (file : LoadState) where
-  same_rest : (at at_too count count_too : ℕ) → at ≡ at_too → count ≡ count_too → stream_from file at count ≡ stream_from file at_too count_too
-  same_rest at at_too count count_too one other = ap (λ (n : ℕ). stream_from file n count) one ∙ ap (stream_from file at_too) other
-
-  same_byte : (at at_too : ℕ) → at ≡ at_too → byte_of file.seed file.file at ≡ byte_of file.seed file.file at_too
-  same_byte at at_too is = ap (byte_of file.seed file.file) is
-
-  rest_is : (given : List ℕ) (at count : ℕ) → length given ≤ count → ((i : ℕ) → i < length given → get_or given i 0 ≡ byte_of file.seed file.file (at + i))
-      → given ++ stream_from file (at + length given) (count - length given) ≡ stream_from file at count
-  rest_is [] at count few each = same_rest (at + 0) at (count - 0) count (omega arith) (omega arith)
-  rest_is (x ∷ xs) at zero few each = absurd (omega (arith, few))
-  rest_is (x ∷ xs) at (suc n) few each =
-      let first : x ≡ byte_of file.seed file.file at = each 0 (omega arith) ∙ same_byte (at + 0) at (omega arith) in
-      let others : xs ++ stream_from file (suc at + length xs) (n - length xs) ≡ stream_from file (suc at) n =
-      rest_is xs (suc at) n (omega (arith, few)) (λ i within. each (suc i) (omega (arith, within)) ∙ same_byte (at + suc i) (suc at + i) (omega arith)) in
-      let moved : stream_from file (at + suc (length xs)) (suc n - suc (length xs)) ≡ stream_from file (suc at + length xs) (n - length xs) =
-      same_rest (at + suc (length xs)) (suc at + length xs) (suc n - suc (length xs)) (n - length xs) (omega arith) (omega arith) in
-      ap (λ (l : List ℕ). x ∷ (xs ++ l)) moved ∙ ap (λ (l : List ℕ). x ∷ l) others ∙ ap (λ (b : ℕ). b ∷ stream_from file (suc at) n) first
-
-  abbrev pub rest_of : List ℕ → List ℕ
-  rest_of given = stream_from file (0 + length given) (file.length - length given)
-
-  begun : (given : List ℕ) → BeginsFile file given → given ++ rest_of given ≡ stream_of file
-  begun given begins = rest_is given 0 file.length begins.few (λ i within. begins.each i within ∙ same_byte i (0 + i) (omega arith))
-
-  none_left : (given : List ℕ) → length given ≡ file.length → rest_of given ≡ []
-  none_left given whole = same_rest (0 + length given) (0 + length given) (file.length - length given) 0 refl (omega (arith, whole))
 
 -- ---- a node that a step has is one of its file's tree
 

@@ -1,10 +1,10 @@
 -- None of the steps of a run clashes, where no two different nodes have one digest.
-use Rattle.std.proofs.Common.{◌≡◌, ◌⊎◌, inl, inr, ◌==◌, if◌then◌else◌, ℕ, Bool, true, false, List, [], ◌∷◌, ◌++◌, Some, Result, Ok, Err, refl, sym, ap, ◌∙◌, subst, append_assoc, append-nil, eq-eqb}
+use Rattle.std.proofs.Common.{◌≡◌, ◌⊎◌, inl, inr, ◌==◌, if◌then◌else◌, ℕ, List, [], ◌∷◌, ◌++◌, Some, Result, Ok, Err, refl, sym, ap, ◌∙◌, subst}
 use Rattle.std.specs.List.{AllByRecursion}
 use Rattle.actor_parts.specs.declared.step.Answer.{Answer}
 use Rattle.actor_parts.specs.Asking.{Ask}
 use Rattle.actor_parts.specs.StepValue as steps
-use Rattle.actor_parts.specs.StepValue.{IsStep, StepValue}
+use Rattle.actor_parts.specs.StepValue.{StepValue}
 use Rattle.load_stream.specs.Load.{LoadState}
 use Rattle.refusals.specs.declared.refusal.Refusal.{Refusal}
 use Rattle.refusals.specs.declared.refusal.Refusal.TheVariants as refusals
@@ -22,29 +22,18 @@ use Rattle.core_machine.specs.Files.{FilesRefine, FitsBy, IsAtFiles, stored_in}
 use Rattle.core_machine.specs.Refines.{answered_by}
 use Rattle.ingest_workers.specs.Ingesting.{ask_of, asks_of}
 use Rattle.ingest_workers.specs.Owing.{AreAllOwed, AreOwed, IsOwed, OwedRunsAreRight}
+use Rattle.ingest_workers.proofs.Rightly.{mine_of, owed_at, own_first}
 use Rattle.shared_work.specs.Clashing.{IsHeldBetween, IsHeldNode, IsNoClash, IsNodeOf, NoneClashes}
 use Rattle.shared_work.proofs.Clashing.{claim_clear, seal_clear}
 use Rattle.shared_work.proofs.CompleteLeaves.{ask}
 use Rattle.shared_work.proofs.EachStep.{Goes, each_step, steps_run}
 
--- ---- what was owed at a place
-
-pub owed_at : (own : List LoadState) (before xs : List Ask) (a : Ask) (ys : List Ask) → AreOwed own before (xs ++ a ∷ ys) → IsOwed own (before ++ xs) a.step
-owed_at own before [] a ys owed = subst (λ (l : List Ask). IsOwed own l a.step) (sym (append-nil before)) owed.0
-owed_at own before (x ∷ xs) a ys owed =
-    subst (λ (l : List Ask). IsOwed own l a.step) (append_assoc before (x ∷ []) xs) (owed_at own (before ++ x ∷ []) xs a ys owed.1)
-
-mine_of : (mine : Bool) (a : Ask) (xs ys : List Ask) → (if mine then a ∷ (xs ++ ys) else xs ++ ys) ≡ (if mine then a ∷ xs else xs) ++ ys
-mine_of true a xs ys = refl
-mine_of false a xs ys = refl
+-- ---- what an actor asked for
 
 pub asks_append : (actor : ℕ) (xs ys : List Event) → asks_of actor (xs ++ ys) ≡ asks_of actor xs ++ asks_of actor ys
 asks_append actor [] ys = refl
 asks_append actor (x ∷ xs) ys =
     ap (λ (l : List Ask). if x.actor == actor then ask_of x ∷ l else l) (asks_append actor xs ys) ∙ mine_of (x.actor == actor) (ask_of x) (asks_of actor xs) (asks_of actor ys)
-
-pub own_first : (e : Event) (es : List Event) → asks_of e.actor (e ∷ es) ≡ ask_of e ∷ asks_of e.actor es
-own_first e es = ap (λ (b : Bool). if b then ask_of e ∷ asks_of e.actor es else asks_of e.actor es) (eq-eqb e.actor e.actor refl)
 
 -- ---- a step
 
@@ -76,17 +65,7 @@ module _ {C : Type 0} (state : C → CoreState) (refine : FilesRefine C state) (
       clear_by (steps.Claim seg) key at owes is changed = claim_clear Nodes no_nodes content held own a nodes before seg key at owes changed.1
       clear_by (steps.Seal offered) key at owes is changed = seal_clear Nodes no_nodes content held own a nodes before offered key at _ owes changed.1
       clear_by steps.ReadNext key at owes (right, (value, rest, after, was, stays, others)) changed = not_read rest after key at stays
-      clear_by steps.Begin key at owes is changed = is.1
-      clear_by (steps.Commit name root) key at owes is changed = is.1
-      clear_by steps.Abort key at owes is changed = is.1
-      clear_by (steps.OpenRead name) key at owes is changed = is.1
-      clear_by steps.EndRead key at owes is changed = is.1
-      clear_by (steps.Delete name) key at owes is changed = is.1
-      clear_by steps.ListNames key at owes is changed = is.1
-      clear_by (steps.GcStart percent) key at owes is changed = is.1
-      clear_by steps.GcStep key at owes is changed = is.1
-      clear_by steps.Stat key at owes is changed = is.1
-      clear_by steps.Unique key at owes is changed = is.1
+      clear_by other key at owes is changed = is.1
 
       clear_here : (step : StepValue) (answer : Result Answer Refusal) → IsOwed (own a) before step → Answers of_files a (ask bytes step) (answered_by answer buf) m n
           → BytesOf (ask bytes step) (answered_by answer buf) m n content now → IsNoClash answer

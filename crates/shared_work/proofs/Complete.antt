@@ -41,10 +41,10 @@ use Rattle.shared_work.proofs.CompleteSteps.{beside_suits, beside_sure, first_as
 use Rattle.shared_work.proofs.EachStep.{Goes}
 use Rattle.shared_work.proofs.CompleteWalks.{IsLetGo, IsMine, Needs, NeedsName, Seat, There, Walks, seat_after}
 
-no_first : {A : Type 0} (x : A) (xs : List A) → x ∷ xs ≡ [] → ⊥
+pub no_first : {A : Type 0} (x : A) (xs : List A) → x ∷ xs ≡ [] → ⊥
 no_first x xs is = cc
 
-one_at : {X : Type 0} (P : X → Type 0) (xs : List X) (x : X) (ys : List X) → AllByRecursion P (xs ++ x ∷ ys) → P x
+pub one_at : {X : Type 0} (P : X → Type 0) (xs : List X) (x : X) (ys : List X) → AllByRecursion P (xs ++ x ∷ ys) → P x
 one_at P [] x ys all = all.0
 one_at P (z ∷ xs) x ys all = one_at P xs x ys all.1
 
@@ -122,15 +122,7 @@ module _ {C : Type 0} (state : C → CoreState) (count : ℕ) (jobs : List Job) 
       worker_sure worker there (steps.Delete name) has needs = (mine_named count worker jobs name small needs.0, (has name needs.1).1)
       worker_sure worker there (steps.GcStart percent) has needs = absurd needs
       worker_sure worker there steps.GcStep has needs = absurd needs
-      worker_sure worker there steps.Begin has needs = tt
-      worker_sure worker there (steps.Claim seg) has needs = tt
-      worker_sure worker there (steps.Seal offered) has needs = tt
-      worker_sure worker there steps.Abort has needs = tt
-      worker_sure worker there steps.ReadNext has needs = tt
-      worker_sure worker there steps.EndRead has needs = tt
-      worker_sure worker there steps.ListNames has needs = tt
-      worker_sure worker there steps.Stat has needs = tt
-      worker_sure worker there steps.Unique has needs = tt
+      worker_sure worker there other has needs = tt
 
       abbrev IsRight : Type 0
       IsRight = Suits (taken_by (ask bytes e.step)) (kind_of (part_in m e.actor)) × IsSure m (ask bytes e.step)

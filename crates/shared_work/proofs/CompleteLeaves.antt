@@ -246,20 +246,7 @@ module _ (a : ℕ) (m n : FileMachine) where
     done_leaves steps.Stat (answers.Stat files segments count used free) (counts, is) =
         goes steps.Stat (Ok (answers.Stat files segments count used free)) m is refl refl refl
     done_leaves steps.Unique (answers.Unique segments count) (counts, is) = goes steps.Unique (Ok (answers.Unique segments count)) m is refl refl refl
-    done_leaves steps.Begin answer is = absurd is
-    done_leaves (steps.Claim seg) answer is = absurd is
-    done_leaves (steps.Seal offered) answer is = absurd is
-    done_leaves (steps.Commit name root) answer is = absurd is
-    done_leaves steps.Abort answer is = absurd is
-    done_leaves (steps.OpenRead name) answer is = absurd is
-    done_leaves steps.ReadNext answer is = absurd is
-    done_leaves steps.EndRead answer is = absurd is
-    done_leaves (steps.Delete name) answer is = absurd is
-    done_leaves steps.ListNames answer is = absurd is
-    done_leaves (steps.GcStart percent) answer is = absurd is
-    done_leaves steps.GcStep answer is = absurd is
-    done_leaves steps.Stat answer is = absurd is
-    done_leaves steps.Unique answer is = absurd is
+    done_leaves other answer is = absurd is
 
     pub step_leaves : (step : StepValue) (answer : Result Answer Refusal) → Answers of_files a (ask bytes step) (answered_by answer buf) m n → Leaves step answer bytes m n
     step_leaves step (Ok answer) is = done_leaves step answer is

@@ -1,5 +1,5 @@
 -- The names that jobs give: each is one, there are few, and no two workers have one.
-use Rattle.std.proofs.Common.{◌≡◌, ◌≢◌, ◌⊎◌, inl, inr, ◌≤◌, ◌<◌, ◌+◌, ◌-◌, ◌*◌, ◌^◌, ◌%◌, ◌==◌, if◌then◌else◌, ℕ, zero, suc, Bool, true, false, cond, ◌||◌, List, [], ◌∷◌, ◌++◌, map, length, codes, decimal, is_some, Option, Some, None, refl, sym, ap, ◌∙◌, subst, arith, eqb-true, eq-eqb, length-append}
+use Rattle.std.proofs.Common.{◌≡◌, ◌≢◌, ◌⊎◌, inl, inr, ◌≤◌, ◌<◌, ◌+◌, ◌-◌, ◌*◌, ◌^◌, ◌%◌, ◌==◌, if◌then◌else◌, ℕ, zero, suc, Bool, true, false, cond, ◌||◌, List, [], ◌∷◌, ◌++◌, map, length, codes, decimal, is_some, Option, Some, None, refl, sym, ap, ◌∙◌, subst, arith, eqb-true, length-append}
 use Rattle.std.proofs.lemmas.Bool.{cases_lt}
 use Rattle.std.specs.FinMap as finite
 use Rattle.std.specs.Int.Digits.{AllBelowBase, digits_of}
@@ -85,23 +85,7 @@ own_job P count worker (job ∷ jobs) file each there = elim (own_from (job.numb
   | inr later ↦ own_job P count worker jobs file each.1 later
 ]
 
-own_first : (mine : Bool) (job : Job) (rest : List LoadState) → mine ≡ true → Contains (if mine then file_of job ∷ rest else rest) (file_of job)
-own_first true job rest is = (0, omega arith, refl)
-own_first false job rest is = absurd (cc)
-
-own_later : (mine : Bool) (job : Job) (rest : List LoadState) (file : LoadState) → Contains rest file → Contains (if mine then file_of job ∷ rest else rest) file
-own_later true job rest file (i, within, is) = (suc i, omega (arith, within), is)
-own_later false job rest file there = there
-
 -- a worker's own job's is among its files
-pub own_file : (count worker : ℕ) (jobs : List Job) (job : Job) → Contains jobs job → job.number % count ≡ worker → Contains (own_files count worker jobs) (file_of job)
-own_file count worker [] job (i, within, is) mine = absurd (omega (arith, within))
-own_file count worker (j ∷ jobs) job (zero, within, is) mine =
-    let same : j ≡ job = is in
-    subst (λ (k : Job). Contains (own_files count worker (j ∷ jobs)) (file_of k)) same
-    (own_first (j.number % count == worker) j (own_files count worker jobs) (eq-eqb (j.number % count) worker (ap (λ (k : Job). k.number % count) same ∙ mine)))
-own_file count worker (j ∷ jobs) job (suc i, within, is) mine =
-    own_later (j.number % count == worker) j (own_files count worker jobs) (file_of job) (own_file count worker jobs job (i, omega (arith, within), is) mine)
 
 -- a name of one of them is one
 pub mine_named : (count worker : ℕ) (jobs : List Job) (name : List ℕ) → AllByRecursion (λ j. j.number < 2 ^ 64) jobs → IsMine (own_files count worker jobs) name → IsName name

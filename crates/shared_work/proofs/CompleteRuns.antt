@@ -22,10 +22,10 @@ use Rattle.ingest_workers.specs.declared.job.JobEnd.{JobEnd}
 use Rattle.ingest_workers.specs.Ingesting.{asks_of}
 use Rattle.ingest_workers.specs.Named.{StreamsStay, own_by}
 use Rattle.ingest_workers.specs.Owing.{AreAllOwed, AreOwed, IsOwed, JobsAreOwed, OwedRunsAreRight, own_files}
+use Rattle.ingest_workers.proofs.Owed.{own_there}
 use Rattle.shared_work.specs.Complete.{AreWorkersSteps, AskedBeside, IsEmptyAt, MayAsk, MayRefuse, WhatWorkersAskIsDone, runs_after}
 use Rattle.shared_work.proofs.Complete.{Before, Holds, goes}
 use Rattle.shared_work.proofs.RefusedJobs.{asks_may, jobs_may}
-use Rattle.shared_work.proofs.CompleteNames.{own_file}
 use Rattle.shared_work.proofs.CompleteSteps.{same_kind}
 use Rattle.shared_work.proofs.EachStep.{each_step}
 use Rattle.shared_work.proofs.CompleteWalks.{jobs_walk, seat}
@@ -79,7 +79,7 @@ module _ {C : Type 0} (state : C → CoreState) (refine : FilesRefine C state) (
         kind_is = sym (same_kind S m (state old) (suc worker) empty.machine
             ∙ ap (λ (ps : List (Part (List ℕ) (List (List ℕ)))). kind_of (slice_index_or ps (suc worker) Idle)) empty.idle ∙ ap kind_of (same_at ACTORS (suc worker) Idle));
         has = λ name there. absurd (let wrong : false ≡ true = there in cc);
-        walk = jobs_walk (own_files count worker jobs) count worker jobs ended (asks_of (suc worker) es) (λ job there mine. own_file count worker jobs job there mine)
+        walk = jobs_walk (own_files count worker jobs) count worker jobs ended (asks_of (suc worker) es) (λ job there mine. own_there count worker jobs job there mine)
             (seat kinds.Idle (λ name. false)) refl (steps_are.workers worker below);
       };
       collector = subst (λ b. AskedBeside b (asks_of 0 es)) (sym (ap is_some empty.no_collection)) steps_are.collector;

@@ -41,14 +41,9 @@ use Rattle.shared_work.proofs.CompleteWalks.{IsMine, NeedsName, There, there_aft
 
 core_same : (p : Part Root (List Top)) (q : CorePart) → SamePart p q → core_kind q ≡ kind_of p
 core_same Idle core.Idle same = refl
-core_same Idle (core.Writing pins) same = absurd same
-core_same Idle (core.Reading reader) same = absurd same
-core_same (Writing pins) core.Idle same = absurd same
 core_same (Writing pins) (core.Writing others) same = refl
-core_same (Writing pins) (core.Reading reader) same = absurd same
-core_same (Reading root rest) core.Idle same = absurd same
-core_same (Reading root rest) (core.Writing pins) same = absurd same
 core_same (Reading root rest) (core.Reading reader) same = refl
+core_same other it same = absurd same
 
 pub core_at : (ps : List (Part Root (List Top))) (qs : List CorePart) (i : ℕ) → SameParts ps qs → SamePart (slice_index_or ps i Idle) (part_of qs i)
 unfolding part_of
@@ -75,19 +70,7 @@ module _ (e : Event) (es : List Event) where
 -- a step takes the same whatever the root of a commit is taken for
 pub same_taken : (bytes : List ℕ) (step : StepValue) → taken_by (asked_by step) ≡ taken_by (ask bytes step)
 same_taken bytes steps.Begin = refl
-same_taken bytes (steps.Claim seg) = refl
-same_taken bytes (steps.Seal offered) = refl
-same_taken bytes (steps.Commit name root) = refl
-same_taken bytes steps.Abort = refl
-same_taken bytes (steps.OpenRead name) = refl
-same_taken bytes steps.ReadNext = refl
-same_taken bytes steps.EndRead = refl
-same_taken bytes (steps.Delete name) = refl
-same_taken bytes steps.ListNames = refl
-same_taken bytes (steps.GcStart percent) = refl
-same_taken bytes steps.GcStep = refl
-same_taken bytes steps.Stat = refl
-same_taken bytes steps.Unique = refl
+same_taken bytes other = refl
 
 -- what is asked for beside workers takes nothing
 pub beside_suits : (bytes : List ℕ) (runs : Bool) (step : StepValue) (kind : PartKind) → MayAsk runs step → Suits (taken_by (ask bytes step)) kind
@@ -111,18 +94,7 @@ pub no_collection : (own : List LoadState) (there : There) (step : StepValue) (a
     → runs_after step answer runs ≡ runs
 no_collection own there (steps.GcStart percent) answer runs needs = absurd needs
 no_collection own there steps.GcStep answer runs needs = absurd needs
-no_collection own there steps.Begin answer runs needs = refl
-no_collection own there (steps.Claim seg) answer runs needs = refl
-no_collection own there (steps.Seal offered) answer runs needs = refl
-no_collection own there (steps.Commit name root) answer runs needs = refl
-no_collection own there steps.Abort answer runs needs = refl
-no_collection own there (steps.OpenRead name) answer runs needs = refl
-no_collection own there steps.ReadNext answer runs needs = refl
-no_collection own there steps.EndRead answer runs needs = refl
-no_collection own there (steps.Delete name) answer runs needs = refl
-no_collection own there steps.ListNames answer runs needs = refl
-no_collection own there steps.Stat answer runs needs = refl
-no_collection own there steps.Unique answer runs needs = refl
+no_collection own there other answer runs needs = refl
 
 -- ---- what is given up is let go
 
@@ -171,18 +143,7 @@ own_there own there stored bytes (steps.Delete nm) (Ok answer) name has needs is
     by false same is = ((has name is).0, left_there stored.files nm name same (has name is).1)
 own_there own there stored bytes (steps.Commit nm root) (Err refusal) name has needs is = has name is
 own_there own there stored bytes (steps.Delete nm) (Err refusal) name has needs is = has name is
-own_there own there stored bytes steps.Begin answer name has needs is = has name is
-own_there own there stored bytes (steps.Claim seg) answer name has needs is = has name is
-own_there own there stored bytes (steps.Seal offered) answer name has needs is = has name is
-own_there own there stored bytes steps.Abort answer name has needs is = has name is
-own_there own there stored bytes (steps.OpenRead nm) answer name has needs is = has name is
-own_there own there stored bytes steps.ReadNext answer name has needs is = has name is
-own_there own there stored bytes steps.EndRead answer name has needs is = has name is
-own_there own there stored bytes steps.ListNames answer name has needs is = has name is
-own_there own there stored bytes (steps.GcStart percent) answer name has needs is = has name is
-own_there own there stored bytes steps.GcStep answer name has needs is = has name is
-own_there own there stored bytes steps.Stat answer name has needs is = has name is
-own_there own there stored bytes steps.Unique answer name has needs is = has name is
+own_there own there stored bytes other answer name has needs is = has name is
 
 -- another's step takes it from nobody
 pub others_there : (stored : Stored) (bytes : List ℕ) (step : StepValue) (answer : Result Answer Refusal) (name : List ℕ)
@@ -196,32 +157,9 @@ others_there stored bytes (steps.Commit nm root) (Ok answer) name apart there = 
 others_there stored bytes (steps.Delete nm) (Ok answer) name apart there = left_there stored.files nm name (other_names nm name (apart nm refl)) there
 others_there stored bytes (steps.Commit nm root) (Err refusal) name apart there = there
 others_there stored bytes (steps.Delete nm) (Err refusal) name apart there = there
-others_there stored bytes steps.Begin answer name apart there = there
-others_there stored bytes (steps.Claim seg) answer name apart there = there
-others_there stored bytes (steps.Seal offered) answer name apart there = there
-others_there stored bytes steps.Abort answer name apart there = there
-others_there stored bytes (steps.OpenRead nm) answer name apart there = there
-others_there stored bytes steps.ReadNext answer name apart there = there
-others_there stored bytes steps.EndRead answer name apart there = there
-others_there stored bytes steps.ListNames answer name apart there = there
-others_there stored bytes (steps.GcStart percent) answer name apart there = there
-others_there stored bytes steps.GcStep answer name apart there = there
-others_there stored bytes steps.Stat answer name apart there = there
-others_there stored bytes steps.Unique answer name apart there = there
+others_there stored bytes other answer name apart there = there
 
 -- a commit is of a file
 pub of_file : (own : List LoadState) (step : StepValue) (bytes : List ℕ) → IsOfStream own step bytes → IsOfFile step bytes
 of_file own (steps.Commit name root) bytes is = (is.3, is.4)
-of_file own steps.Begin bytes is = tt
-of_file own (steps.Claim seg) bytes is = tt
-of_file own (steps.Seal offered) bytes is = tt
-of_file own steps.Abort bytes is = tt
-of_file own (steps.OpenRead name) bytes is = tt
-of_file own steps.ReadNext bytes is = tt
-of_file own steps.EndRead bytes is = tt
-of_file own (steps.Delete name) bytes is = tt
-of_file own steps.ListNames bytes is = tt
-of_file own (steps.GcStart percent) bytes is = tt
-of_file own steps.GcStep bytes is = tt
-of_file own steps.Stat bytes is = tt
-of_file own steps.Unique bytes is = tt
+of_file own other bytes is = tt

@@ -2,24 +2,24 @@
 use Rattle.std.proofs.Common.{◌≡◌, ℕ, List, [], ◌∷◌, ◌++◌, map, append_assoc, Option, Some, None, Result, Ok, Err, refl, sym, ap, ◌∙◌, subst}
 use Rattle.std.specs.FinMap as finite
 use Rattle.std.proofs.lemmas.List.{map-append}
+use Rattle.namespace.specs.Listing.{NamedRoot}
 use Rattle.actor_parts.specs.declared.step.Answer.{Answer}
 use Rattle.actor_parts.specs.declared.step.Answer.TheVariants as answers
 use Rattle.actor_parts.specs.Asking.{Ask}
 use Rattle.actor_parts.specs.StepValue as steps
 use Rattle.refusals.specs.declared.refusal.Refusal.{Refusal}
-use Rattle.store_model.specs.Unique.{AreUnique}
 use Rattle.store_core.specs.Runs.{FileEvent, events_of}
 use Rattle.store_core.specs.State.{Event}
-use Rattle.store_machine.specs.Asked.{Asked}
 use Rattle.store_machine.specs.Asked as asked
 use Rattle.store_machine.specs.ByMap.{FileMachine}
 use Rattle.store_machine.specs.Done.{Done}
 use Rattle.store_machine.specs.Done as done
-use Rattle.store_machine.specs.Legal.{ByState, Does, Legal, listing}
-use Rattle.store_machine.specs.Machine.{RunState, Running, Stopped}
+use Rattle.store_machine.specs.Legal.{ByState, Legal, listing}
+use Rattle.store_machine.specs.Machine.{Machine, RunState, Running, Stepped, Stopped}
 use Rattle.store_machine.specs.Runs.{Run}
-use Rattle.store_machine.specs.Values.{of_files}
+use Rattle.store_machine.specs.Values.{Values, of_files}
 use Rattle.core_machine.specs.Files.{file_step}
+use Rattle.core_machine.specs.Refines.{answered_by, asked_as}
 use Rattle.shared_store.specs.Events.{event_of}
 use Rattle.ingest_workers.specs.declared.job.JobEnd.{JobEnd}
 use Rattle.ingest_workers.specs.declared.job.JobEnd.TheVariants as ends
@@ -50,32 +50,48 @@ all_stored (Some ended) collected is = record { all = ended; ended_is = refl; st
 
 -- ---- what was asked for last
 
--- the last two that were asked for list the names, and count
-pub record EndsTold (summary : Summary) (last : List Ask) : Type 0 where
-  pub before : List Ask
+-- the last two steps list the names, and count what their trees have
+pub record EndsTold (summary : Summary) (all : List Event) : Type 0 where
+  pub before : List Event
   pub list : Ask
   pub count : Ask
-  pub last_is : last ≡ before ++ (list ∷ count ∷ [])
+  pub all_is : all ≡ before ++ event_of 0 list ∷ event_of 0 count ∷ []
   pub list_is : list.step ≡ steps.ListNames
   pub listed : list.answer ≡ Ok (answers.Listed summary.files)
   pub count_is : count.step ≡ steps.Unique
   pub counted : count.answer ≡ Ok (answers.Unique summary.segments summary.bytes)
 
+-- whatever came before them
+pub told_behind : (summary : Summary) (first more all : List Event) → all ≡ first ++ more → EndsTold summary more → EndsTold summary all
+told_behind summary first more all is t = record {
+  before = first ++ t.before;
+  list = t.list;
+  count = t.count;
+  all_is = is ∙ ap (λ (l : List Event). first ++ l) t.all_is ∙ sym (append_assoc first t.before (event_of 0 t.list ∷ event_of 0 t.count ∷ []));
+  list_is = t.list_is;
+  listed = t.listed;
+  count_is = t.count_is;
+  counted = t.counted;
+}
+
 module _ (summary : Summary) (came : Outcome) (came_is : came ≡ Ok summary) where
-  not_refused : (refusal : Refusal) → came ≡ Err refusal → ⊥
+  pub not_refused : (refusal : Refusal) → came ≡ Err refusal → ⊥
   not_refused refusal is = let wrong : ◌≡◌ {A = Outcome} (Ok summary) (Err refusal) = sym came_is ∙ is in cc
 
-  ends_told : (percent : ℕ) (last : List Ask) → Concludes percent came last → EndsTold summary last
+  pub ends_told : (percent : ℕ) (last : List Ask) → Concludes percent came last → EndsTold summary (map (event_of 0) last)
   ends_told percent last (Uncollected refusal _ is once) = absurd (not_refused refusal is)
   ends_told percent _ (Unlisted refusal all list is once lists) = absurd (not_refused refusal is)
   ends_told percent _ (Uncounted refusal all list count files is once lists counts) = absurd (not_refused refusal is)
   ends_told percent _ (Concluded other all list count is once lists counts) =
       let same : other ≡ summary = (let e : ◌≡◌ {A = Outcome} (Ok other) (Ok summary) = sym is ∙ came_is in cc) in
       record {
-        before = all;
+        before = map (event_of 0) all;
         list = lists.0;
         count = counts.0;
-        last_is = ap (λ (l : List Ask). all ++ (l ++ count)) lists.1.0 ∙ ap (λ (l : List Ask). all ++ (lists.0 ∷ l)) counts.1.0;
+        all_is =
+            map-append (event_of 0) all (list ++ count)
+            ∙ ap (λ (l : List Event). map (event_of 0) all ++ l)
+            (ap (λ (l : List Ask). map (event_of 0) (l ++ count)) lists.1.0 ∙ ap (λ (l : List Ask). event_of 0 lists.0 ∷ map (event_of 0) l) counts.1.0);
         list_is = lists.1.1;
         listed = lists.1.2 ∙ ap (λ (s : Summary). Ok (answers.Listed s.files)) same;
         count_is = counts.1.1;
@@ -85,7 +101,7 @@ module _ (summary : Summary) (came : Outcome) (came_is : came ≡ Ok summary) wh
   -- where a summary is told nothing was refused
   pub record Finishes (ended : Option (List JobEnd)) (last : List Ask) : Type 0 where
     pub all : AllStored ended
-    pub told : EndsTold summary last
+    pub told : EndsTold summary (map (event_of 0) last)
 
   finishes_by : (percent : ℕ) (ended : Option (List JobEnd)) (collected : Result (Unit {0}) Refusal) (last : List Ask) (refused : Option Refusal)
       → refused_in ended collected ≡ refused → EndsBy percent refused came last → Finishes ended last
@@ -112,63 +128,71 @@ runs_out (e ∷ before) es [] m left is run = absurd (let wrong : ◌≡◌ {A =
 runs_out (e ∷ before) es (f ∷ fs) m left is run =
     runs_out before es fs run.0 left (let both : ◌≡◌ {A = List Event} (f.event ∷ events_of fs) (e ∷ (before ++ es)) = is in cc) run.1.1
 
--- what was answered was done, by a machine that runs
-did : (state : RunState (List ℕ)) (a : ℕ) (step : Asked (List ℕ)) (answer : Done) (m n : FileMachine) → ByState of_files state a step (Ok answer) m n
-    → (state ≡ Running) × Does of_files a step answer m n
-did Running a step answer m n is = (refl, is)
-did (Stopped other stores) a step answer m n is = absurd (let wrong : ◌≡◌ {A = Result Done Refusal} (Ok answer) (Err _) = is.0 in cc)
+-- ---- what they tell of the machine
 
-legal_by : (f : FileEvent) (e : Event) (m n : FileMachine) → f.event ≡ e → Legal of_files (file_step f) m n
-    → Legal of_files (file_step (record { event = e; bytes = f.bytes })) m n
-legal_by f e m n is legal = subst (λ (x : Event). Legal of_files (file_step (record { event = x; bytes = f.bytes })) m n) is legal
+module _ {V R : Type 0} (v : Values V R) where
+  -- it runs, and its names and their trees are as it was summed up
+  pub record IsTold (summary : Summary) (left : Machine V R) : Type 0 where
+    pub runs : left.state ≡ Running
+    pub listed : summary.files ≡ listing v left.now
+    pub counted : v.AreUnique (finite.values left.now.names) summary.segments summary.bytes
 
--- an ask, in the parts that are known of it
-ask_is : (a : Ask) (step : steps.StepValue) (answer : Result Answer Refusal) → a.step ≡ step → a.answer ≡ answer
-    → event_of 0 a ≡ record { actor = 0; step = step; answer = answer; buf = a.buf }
-ask_is a step answer step_is answer_is = λ i. record { actor = 0; step = step_is i; answer = answer_is i; buf = a.buf }
+  listed_at : (state : RunState V) (actor : ℕ) (files : List NamedRoot) (m n : Machine V R) → ByState v state actor asked.ListNames (Ok (done.Listed files)) m n
+      → m.state ≡ state → (files ≡ listing v m.now) × (n ≡ m) × (m.state ≡ Running)
+  listed_at Running actor files m n is state_is = (is.0, is.1, state_is)
+  listed_at (Stopped other stores) actor files m n is state_is = absurd (let answer = is.0 in cc)
 
--- It ends with a listing of the names that are left, and with their count, and runs on.
-pub record IsTold (summary : Summary) (left : FileMachine) : Type 0 where
-  pub runs : left.state ≡ Running
-  pub listed : summary.files ≡ listing of_files left.now
-  pub counted : AreUnique (finite.values left.now.names) summary.segments summary.bytes
+  counted_at : (state : RunState V) (actor segments bytes : ℕ) (m n : Machine V R) → ByState v state actor asked.Unique (Ok (done.Unique segments bytes)) m n
+      → v.AreUnique (finite.values m.now.names) segments bytes × (n ≡ m)
+  counted_at Running actor segments bytes m n is = (is.0, is.1)
+  counted_at (Stopped other stores) actor segments bytes m n is = absurd (let answer = is.0 in cc)
 
-module _ (summary : Summary) (list_buf count_buf : List ℕ) where
-  abbrev list_event : Event
-  list_event = record { actor = 0; step = steps.ListNames; answer = Ok (answers.Listed summary.files); buf = list_buf }
+  pub split : (xs ys : List (Stepped V)) (m n : Machine V R) → Run v (xs ++ ys) m n → (mid : Machine V R) × (Run v xs m mid × Run v ys mid n)
+  split [] ys m n run = (m, (refl, run))
+  split (x ∷ xs) ys m n (next, (legal, run)) = let rest = split xs ys next n run in (rest.0, ((next, (legal, rest.1.0)), rest.1.1))
 
-  abbrev count_event : Event
-  count_event = record { actor = 0; step = steps.Unique; answer = Ok (answers.Unique summary.segments summary.bytes); buf = count_buf }
-
-  told_by : (fs : List FileEvent) (m left : FileMachine) → events_of fs ≡ list_event ∷ count_event ∷ [] → Run of_files (map file_step fs) m left → IsTold summary left
-  told_by [] m left is run = absurd (let wrong : ◌≡◌ {A = List Event} [] (list_event ∷ count_event ∷ []) = is in cc)
-  told_by (f ∷ []) m left is run =
-      absurd (let wrong : ◌≡◌ {A = List Event} (f.event ∷ []) (list_event ∷ count_event ∷ []) = is in cc)
-  told_by (f ∷ g ∷ h ∷ fs) m left is run =
-      absurd (let wrong : ◌≡◌ {A = List Event} (f.event ∷ g.event ∷ h.event ∷ events_of fs) (list_event ∷ count_event ∷ []) = is in cc)
-  told_by (f ∷ g ∷ []) m left is (mid, (first, (end, (second, same)))) =
-      let f_is : f.event ≡ list_event = (let both : ◌≡◌ {A = List Event} (f.event ∷ g.event ∷ []) (list_event ∷ count_event ∷ []) = is in cc) in
-      let g_is : g.event ≡ count_event = (let both : ◌≡◌ {A = List Event} (f.event ∷ g.event ∷ []) (list_event ∷ count_event ∷ []) = is in cc) in
-      let lists = did m.state 0 asked.ListNames (done.Listed summary.files) m mid (legal_by f list_event m mid f_is first) in
-      let counts = did mid.state 0 asked.Unique (done.Unique summary.segments summary.bytes) mid end (legal_by g count_event mid end g_is second) in
-      let left_is : left ≡ m = same ∙ counts.1.1 ∙ lists.1.1 in
+  -- the last two steps, as the machine's
+  pub told_last : (summary : Summary) (xs : List (Stepped V)) (list count : Stepped V) (m n : Machine V R) → list.asked ≡ asked.ListNames
+      → list.answer ≡ Ok (done.Listed summary.files) → count.asked ≡ asked.Unique → count.answer ≡ Ok (done.Unique summary.segments summary.bytes)
+      → Run v (xs ++ list ∷ count ∷ []) m n → IsTold summary n
+  told_last summary xs list count m n list_is listed count_is counted run =
+      let parts = split xs (list ∷ count ∷ []) m n run in
+      let mid : Machine V R = parts.0 in
+      let after : Machine V R = parts.1.1.0 in
+      let one : Legal v (record { actor = list.actor; asked = asked.ListNames; answer = Ok (done.Listed summary.files) }) mid after =
+      subst (λ (a : Result Done Refusal). Legal v (record { actor = list.actor; asked = asked.ListNames; answer = a }) mid after) listed
+      (subst (λ (q : _). Legal v (record { actor = list.actor; asked = q; answer = list.answer }) mid after) list_is parts.1.1.1.0) in
+      let two : Legal v (record { actor = count.actor; asked = asked.Unique; answer = Ok (done.Unique summary.segments summary.bytes) }) after parts.1.1.1.1.0 =
+      subst (λ (a : Result Done Refusal). Legal v (record { actor = count.actor; asked = asked.Unique; answer = a }) after parts.1.1.1.1.0) counted
+      (subst (λ (q : _). Legal v (record { actor = count.actor; asked = q; answer = count.answer }) after parts.1.1.1.1.0) count_is parts.1.1.1.1.1.0) in
+      let list_told = listed_at mid.state list.actor summary.files mid after one refl in
+      let count_told = counted_at after.state count.actor summary.segments summary.bytes after parts.1.1.1.1.0 two in
+      let same : n ≡ after = parts.1.1.1.1.1.1 ∙ count_told.1 in
+      let back : n ≡ mid = same ∙ list_told.1 in
       record {
-        runs = ap (λ (x : FileMachine). x.state) (same ∙ counts.1.1) ∙ counts.0;
-        listed = lists.1.0 ∙ ap (λ (x : FileMachine). listing of_files x.now) (sym left_is);
-        counted = subst (λ (x : FileMachine). AreUnique (finite.values x.now.names) summary.segments summary.bytes) (sym (same ∙ counts.1.1)) counts.1.0;
+        runs = ap (λ (k : Machine V R). k.state) back ∙ list_told.2;
+        listed = list_told.0 ∙ ap (λ (k : Machine V R). listing v k.now) (sym back);
+        counted = subst (λ (k : Machine V R). v.AreUnique (finite.values k.now.names) summary.segments summary.bytes) (sym same) count_told.0;
       }
 
-pub is_told : (summary : Summary) (before : List Event) (last : List Ask) (fs : List FileEvent) (m left : FileMachine) → EndsTold summary last
-    → events_of fs ≡ before ++ map (event_of 0) last → Run of_files (map file_step fs) m left → IsTold summary left
-is_told summary before last fs m left told is run =
-    let list : Event = list_event summary told.list.buf told.count.buf in
-    let count : Event = count_event summary told.list.buf told.count.buf in
-    let earlier : List Event = map (event_of 0) told.before in
-    let last_are : map (event_of 0) last ≡ earlier ++ (list ∷ count ∷ []) =
-    ap (map (event_of 0)) told.last_is ∙ map-append (event_of 0) told.before (told.list ∷ told.count ∷ [])
-    ∙ ap (λ (e : Event). earlier ++ (e ∷ event_of 0 told.count ∷ [])) (ask_is told.list steps.ListNames (Ok (answers.Listed summary.files)) told.list_is told.listed)
-    ∙ ap (λ (e : Event). earlier ++ (list ∷ e ∷ []))
-    (ask_is told.count steps.Unique (Ok (answers.Unique summary.segments summary.bytes)) told.count_is told.counted) in
-    let out = runs_out (before ++ earlier) (list ∷ count ∷ []) fs m left
-    (is ∙ ap (λ (l : List Event). before ++ l) last_are ∙ sym (append_assoc before earlier (list ∷ count ∷ []))) run in
-    told_by summary told.list.buf told.count.buf out.files out.from left out.events_are out.run
+-- it is so of a machine of files that goes on by them
+pub is_told : (summary : Summary) (before more : List Event) (fs : List FileEvent) (m left : FileMachine) → EndsTold summary more
+    → events_of fs ≡ before ++ more → Run of_files (map file_step fs) m left → IsTold of_files summary left
+is_told summary before more fs m left told is run =
+    let all = told_behind summary before more (before ++ more) refl told in
+    let out = runs_out all.before (event_of 0 all.list ∷ event_of 0 all.count ∷ []) fs m left (is ∙ all.all_is) run in by all out.files out.from out.events_are out.run
+  where
+    by : (t : EndsTold summary (before ++ more)) (es : List FileEvent) (from : FileMachine) → events_of es ≡ event_of 0 t.list ∷ event_of 0 t.count ∷ []
+        → Run of_files (map file_step es) from left → IsTold of_files summary left
+    by t [] from are ran = absurd (let wrong : ◌≡◌ {A = List Event} [] (event_of 0 t.list ∷ event_of 0 t.count ∷ []) = are in cc)
+    by t (f ∷ []) from are ran = absurd (let wrong : ◌≡◌ {A = List Event} (f.event ∷ []) (event_of 0 t.list ∷ event_of 0 t.count ∷ []) = are in cc)
+    by t (f ∷ g ∷ h ∷ es) from are ran =
+        absurd (let wrong : ◌≡◌ {A = List Event} (f.event ∷ g.event ∷ h.event ∷ events_of es) (event_of 0 t.list ∷ event_of 0 t.count ∷ []) = are in cc)
+    by t (f ∷ g ∷ []) from are ran =
+        let f_is : f.event ≡ event_of 0 t.list = (let both : ◌≡◌ {A = List Event} (f.event ∷ g.event ∷ []) (event_of 0 t.list ∷ event_of 0 t.count ∷ []) = are in cc) in
+        let g_is : g.event ≡ event_of 0 t.count = (let both : ◌≡◌ {A = List Event} (f.event ∷ g.event ∷ []) (event_of 0 t.list ∷ event_of 0 t.count ∷ []) = are in cc) in
+        told_last of_files summary [] (file_step f) (file_step g) from left
+        (ap (λ (x : steps.StepValue). asked_as {V = List ℕ} (λ root. f.bytes) x) (ap (λ (e : Event). e.step) f_is ∙ t.list_is))
+        (ap (λ (e : Event). answered_by e.answer e.buf) f_is ∙ ap (λ (x : Result Answer Refusal). answered_by x t.list.buf) t.listed)
+        (ap (λ (x : steps.StepValue). asked_as {V = List ℕ} (λ root. g.bytes) x) (ap (λ (e : Event). e.step) g_is ∙ t.count_is))
+        (ap (λ (e : Event). answered_by e.answer e.buf) g_is ∙ ap (λ (x : Result Answer Refusal). answered_by x t.count.buf) t.counted) ran

@@ -1,5 +1,5 @@
 -- What a whole load asks for is due: of the first actor whatever came before, and of workers by their jobs' files.
-use Rattle.std.proofs.Common.{◌≡◌, ◌==◌, if◌then◌else◌, ℕ, zero, suc, Bool, true, false, List, [], ◌∷◌, ◌++◌, map, Option, Some, None, Result, Ok, Err, refl, ap, ◌∙◌, sym, subst, arith, eq-eqb, inl, inr, ne_eqb}
+use Rattle.std.proofs.Common.{◌≡◌, ◌==◌, if◌then◌else◌, ℕ, zero, suc, Bool, false, List, [], ◌∷◌, ◌++◌, map, Option, Some, None, Result, Ok, Err, refl, ap, ◌∙◌, sym, subst, arith, eq-eqb, inl, inr, ne_eqb}
 use Rattle.std.specs.List.{AllByRecursion}
 use Rattle.std.proofs.lemmas.Bool.{cases_lt}
 use Rattle.std.proofs.lemmas.List.{append-nil}
@@ -10,13 +10,14 @@ use Rattle.load_stream.specs.Load.{LoadState}
 use Rattle.store_core.specs.State.{Event}
 use Rattle.shared_store.specs.Events.{event_of}
 use Rattle.ingest_workers.specs.declared.job.JobEnd.{JobEnd}
-use Rattle.ingest_workers.specs.Ingesting.{ask_of, asks_of}
+use Rattle.ingest_workers.specs.Ingesting.{asks_of}
 use Rattle.ingest_workers.specs.Owing.{AreAllOwed, AreOwed, IsOwed, JobsAreOwed, own_files}
 use Rattle.ingest_workers.specs.declared.job.Job.{Job}
 use Rattle.refusals.specs.declared.refusal.Refusal.{Refusal}
 use Rattle.shared_work.specs.Whole.{EndsBy, Outcome, Plan, WorksOnEmpty, refused_in, streams_of}
 use Rattle.shared_work.specs.Working.{Again, AskedByWorker, Broke, CollectsOften, Ended}
 use Rattle.shared_work.proofs.Filling.{conclude_asks, once_asks}
+use Rattle.shared_work.proofs.ClashingRuns.{asks_append}
 
 -- ---- steps that are due whatever was asked for before
 
@@ -56,15 +57,6 @@ last_free percent (Some refusal) came last ends = subst AreFree (sym ends.0) tt
 last_free percent None came last ends = conclude_asks IsFree (λ some. tt) tt tt tt percent came last ends
 
 -- ---- what each actor asked for
-
-asks_append : (x : ℕ) (es fs : List Event) → asks_of x (es ++ fs) ≡ asks_of x es ++ asks_of x fs
-asks_append x [] fs = refl
-asks_append x (e ∷ es) fs =
-    elim (e.actor == x) as (λ (b : Bool). (if b then ask_of e ∷ asks_of x (es ++ fs) else asks_of x (es ++ fs))
-    ≡ (if b then ask_of e ∷ asks_of x es else asks_of x es) ++ asks_of x fs) [
-      | true ↦ ap (λ (l : List Ask). ask_of e ∷ l) (asks_append x es fs)
-      | false ↦ asks_append x es fs
-    ]
 
 asks_own : (x : ℕ) (all : List Ask) → asks_of x (map (event_of x) all) ≡ all
 asks_own x [] = refl

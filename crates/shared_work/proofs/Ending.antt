@@ -40,6 +40,7 @@ use Rattle.shared_work.proofs.CompleteLeaves.{ask}
 use Rattle.shared_work.proofs.CompleteNames.{none_there}
 use Rattle.shared_work.proofs.CompleteSteps.{first_asked, not_asked}
 use Rattle.shared_work.proofs.ClashingRuns.{asks_append}
+use Rattle.shared_work.proofs.Complete.{no_first}
 
 -- ---- where nothing was asked for
 
@@ -130,9 +131,6 @@ no_entries : {X : Type 0} (xs : List X) → length xs ≡ 0 → xs ≡ []
 no_entries [] is = refl
 no_entries (x ∷ xs) is = absurd (omega (arith, is))
 
-some_entry : {X : Type 0} (x : X) (xs : List X) → x ∷ xs ≡ [] → ⊥
-some_entry x xs is = cc
-
 module _ {C : Type 0} (state : C → CoreState) (refine : FilesRefine C state) (done : WhatWorkersAskIsDone C state) where
   module _ (among : ByteSet) (distinct : HasNoCollisions (IsIn among)) (plan : Plan) (small : IsSmall plan) (m : FileMachine) (old new : C)
       (empty : IsEmptyAt (IsIn among) m (state old)) where
@@ -206,7 +204,7 @@ module _ {C : Type 0} (state : C → CoreState) (refine : FilesRefine C state) (
         no_names : (file : NamedRoot) (more : List NamedRoot) → first.answer ≡ Ok (answers.Listed (file ∷ more)) → ⊥
         no_names file more told =
             let ran : CoreRun C state (first ∷ rest) old new = subst (λ (l : List Event). CoreRun C state l old new) steps_is run in
-            some_entry file more (none_listed first ran.0 (file ∷ more) ran.1.0 step_is told)
+            no_first file more (none_listed first ran.0 (file ∷ more) ran.1.0 step_is told)
 
         by_files : (files : List NamedRoot) → first.answer ≡ Ok (answers.Listed files) → BeginsBy plan (Ok (answers.Listed files)) came rest → AllMay
         by_files [] told goes = on_empty goes

@@ -40,8 +40,9 @@ use Rattle.shared_work.specs.Left.{IsFileWork, IsOfWork, WorksLeaveFiles}
 use Rattle.shared_work.specs.Streams.{HasAllSegments, IsOfStreams, LeavesStreams, WorkLeavesStreams}
 use Rattle.shared_work.specs.Whole.{BeginsBy, IsWorkDone, Outcome, Plan, WorksOnEmpty, streams_of}
 use Rattle.shared_work.specs.Working.{AskedByWorker}
-use Rattle.shared_work.proofs.Concluding.{IsTold, finishes, is_told}
+use Rattle.shared_work.proofs.Concluding.{finishes, is_told}
 use Rattle.shared_work.proofs.Due.{all_owed, all_steps, by_worker}
+use Rattle.shared_work.proofs.Streaming.{itself}
 
 -- ---- names are listed
 
@@ -135,12 +136,6 @@ module _ (plan : Plan) (files : Files) (each : (job : Job) → Contains plan.job
         ),
       )
 
--- the machine may be found to be what it has
-itself : (state : RunState (List ℕ)) (now : Found (List ℕ)) → MayBeFound of_files state now now
-itself Running now = refl
-itself (Stopped None stores) now = refl
-itself (Stopped (Some other) stores) now = inl refl
-
 -- ---- by the laws
 
 module _ {C : Type 0} (state : C → CoreState) (refine : FileRunsRefine C state) (leave : WorkLeavesStreams C state) (owed : JobsAreOwed) (named : JobsHaveNames)
@@ -210,8 +205,7 @@ module _ {C : Type 0} (state : C → CoreState) (refine : FileRunsRefine C state
       done_by : (summary : Summary) → came ≡ Ok summary → IsWorkDone plan summary left.left
       done_by summary told =
           let by = finishes summary came told plan.percent on.ended on.collected on.last on.ends in
-          let end : IsTold summary left.left =
-          is_told summary (event_of 0 first ∷ on.beside) on.last left.files m left.left by.told left.events_are left.run in
+          let end = is_told summary (event_of 0 first ∷ on.beside) (map (event_of 0) on.last) left.files m left.left by.told left.events_are left.run in
           let each : (job : Job) → Contains plan.jobs job → HasName left.left.now.names job = λ job there.
           subst (λ (x : Files). HasName x job) (sym left.names_are)
           (named plan.workers plan.jobs by.all.all left.files (stored_in m.now) some left.of_streams

@@ -1,15 +1,14 @@
 -- None of the steps of a run lacks a pin, where no two different nodes have one digest.
-use Rattle.std.proofs.Common.{◌≡◌, ◌≢◌, ◌<◌, ℕ, Bool, true, List, [], ◌∷◌, ◌++◌, length, reverse, Option, Some, None, Result, Ok, Err, refl, sym, ap, ◌∙◌, subst, arith, append_assoc}
+use Rattle.std.proofs.Common.{◌≡◌, ◌<◌, ℕ, List, [], ◌∷◌, ◌++◌, length, Option, Some, Result, Ok, Err, refl, sym, ap, ◌∙◌, subst, arith, append_assoc}
 use mathlib.Core.Logic.{dite}
 use native.Mathlib.Decide.{ℕ_discrete}
 use Rattle.std.specs.List.{AllByRecursion, Contains}
-use Rattle.std.proofs.lemmas.List.{append-nil, reverse-append}
+use Rattle.std.proofs.lemmas.List.{append-nil}
 use Rattle.sha2.specs.Sha256.{sha256}
 use Rattle.merkle_file.specs.Node.{spelling}
 use Rattle.container_meta.specs.declared.kind.Kind.{Kind}
 use Rattle.container_meta.specs.Segments.{Contents, KindSegment}
 use Rattle.disk_format.specs.Cells.{Root}
-use Rattle.merkle_file.specs.declared.top.Top.{Top}
 use Rattle.actor_parts.specs.declared.actor.TheConstants.{ACTORS}
 use Rattle.actor_parts.specs.declared.step.Answer.{Answer}
 use Rattle.actor_parts.specs.Asking.{Ask}
@@ -20,7 +19,6 @@ use Rattle.refusals.specs.declared.refusal.Refusal.{Refusal}
 use Rattle.refusals.specs.declared.refusal.Refusal.TheVariants as refusals
 use Rattle.ingest_session.specs.declared.due.Due.{Due}
 use Rattle.ingest_session.specs.declared.due.Due.TheVariants as dues
-use Rattle.ingest_session.specs.Calls.{ready_by}
 use Rattle.ingest_session.specs.Due.{due_in, offered_in}
 use Rattle.ingest_session.specs.History.{History}
 use Rattle.ingest_session.specs.Moving.{IsOffered}
@@ -47,32 +45,20 @@ use Rattle.core_machine.specs.Refines.{answered_by}
 use Rattle.ingest_workers.specs.Giving.{Begun, Given, Gives, SessionOf, Turned}
 use Rattle.ingest_workers.specs.Ingesting.{ask_of, asks_of}
 use Rattle.ingest_workers.specs.Owing.{AreAllOwed, AreOwed, IsDueOf, IsOfStream, IsOwed, IsReadyOf, OwedRunsAreRight, stream_of}
-use Rattle.ingest_workers.proofs.Seats.{reverse_twice}
+use Rattle.ingest_workers.proofs.Rightly.{owed_at, own_first, ready_done}
+use Rattle.ingest_workers.proofs.Ingesting.{none_last, snoc_parts}
 use Rattle.shared_work.specs.Clashing.{IsNodeOf}
 use Rattle.shared_work.specs.Pinning.{IsPinned, NoneLacksPin}
 use Rattle.shared_work.specs.Streams.{HasAllSegments}
 use Rattle.shared_work.proofs.Clashing.{follow, more, whole}
-use Rattle.shared_work.proofs.ClashingRuns.{asks_append, owed_at, own_first}
+use Rattle.shared_work.proofs.ClashingRuns.{asks_append}
 use Rattle.shared_work.proofs.CompleteLeaves.{ask}
 use Rattle.shared_work.proofs.CompleteSteps.{first_asked, not_asked}
 use Rattle.shared_work.proofs.EachStep.{Moment, each_step}
 use Rattle.shared_work.proofs.Pinning.{Keeps, PinnedBy, begins, kept_beside, many_parts, same_pins, turned, untold_pinned}
+use Rattle.shared_work.proofs.Complete.{one_at}
 
 -- ---- lists
-
-none_last : {X : Type 0} (xs : List X) (x : X) → [] ≢ xs ++ x ∷ []
-none_last [] x same = absurd (cc)
-none_last (y ∷ xs) x same = absurd (cc)
-
-snoc_parts : {X : Type 0} (xs ys : List X) (x y : X) → xs ++ x ∷ [] ≡ ys ++ y ∷ [] → (xs ≡ ys) × (x ≡ y)
-snoc_parts xs ys x y same =
-    let turned_is : x ∷ reverse xs ≡ y ∷ reverse ys = sym (reverse-append xs (x ∷ [])) ∙ ap reverse same ∙ reverse-append ys (y ∷ []) in
-    let rest : reverse xs ≡ reverse ys = cc in
-    (sym (reverse_twice xs) ∙ ap reverse rest ∙ reverse_twice ys, cc)
-
-one_at : {X : Type 0} (P : X → Type 0) (xs : List X) (x : X) (ys : List X) → AllByRecursion P (xs ++ x ∷ ys) → P x
-one_at P [] x ys all = all.0
-one_at P (z ∷ xs) x ys all = one_at P xs x ys all.1
 
 nothing_given : (file : LoadState) (earlier gave : List Ask) (h : History) → [] ≡ earlier ++ gave → Gives file gave h → ⊥
 nothing_given file earlier gave h is (Begun a step done) = none_last earlier a is
@@ -88,10 +74,6 @@ first_same : (a b : ℕ) (xs ys : List ℕ) → a ∷ xs ≡ b ∷ ys → a ≡ 
 first_same a b xs ys is = cc
 
 -- ---- what is due, and what is ready
-
-ready_done : (ended : Bool) (due : Due) (count : ℕ) (top : Option Top) (root : Root) → ready_by ended due count top ≡ Some root → (ended ≡ true) × (due ≡ dues.Nothing)
-ready_done true dues.Nothing count top root is = (refl, refl)
-ready_done ended due count top root is = absurd (let wrong : ◌≡◌ {A = Option Root} None (Some root) = is in cc)
 
 same_some : {X : Type 0} (x y : X) → ◌≡◌ {A = Option X} (Some x) (Some y) → x ≡ y
 same_some x y is = cc
@@ -237,16 +219,7 @@ module _ {C : Type 0} (state : C → CoreState) (among : ByteSet) (no_data : Has
     none_lacks (steps.Seal offered) key owes_it stream is = seal_pinned offered key owes_it is
     none_lacks (steps.Commit name root) key owes_it stream is = commit_pinned name root key owes_it stream is
     none_lacks steps.ReadNext key owes_it stream (right, (value, rest, after, was, stays, others)) = not_read rest after key stays
-    none_lacks steps.Begin key owes_it stream is = is.1
-    none_lacks steps.Abort key owes_it stream is = is.1
-    none_lacks (steps.OpenRead name) key owes_it stream is = is.1
-    none_lacks steps.EndRead key owes_it stream is = is.1
-    none_lacks (steps.Delete name) key owes_it stream is = is.1
-    none_lacks steps.ListNames key owes_it stream is = is.1
-    none_lacks (steps.GcStart percent) key owes_it stream is = is.1
-    none_lacks steps.GcStep key owes_it stream is = is.1
-    none_lacks steps.Stat key owes_it stream is = is.1
-    none_lacks steps.Unique key owes_it stream is = is.1
+    none_lacks other key owes_it stream is = is.1
 
     is_pinned : (step : StepValue) (answer : Result Answer Refusal) → IsOwed (own e.actor) sofar step → IsOfStream (own e.actor) step f.bytes → Made step answer → IsPinned answer
     is_pinned step (Err (refusals.Unpinned key)) owes_it stream is = none_lacks step key owes_it stream is

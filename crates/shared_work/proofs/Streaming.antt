@@ -28,12 +28,9 @@ use Rattle.ingest_workers.specs.Named.{AreOfStreams, HasStreams, StreamsStay}
 use Rattle.ingest_workers.specs.Owing.{IsOfStream, OwedRunsAreRight}
 use Rattle.shared_work.specs.Streams.{IsOfStreams, WorkLeavesStreams}
 use Rattle.shared_work.proofs.StreamingSteps.{Doubts, Tried, by_state, doubts}
+use Rattle.shared_work.proofs.CompleteSteps.{of_file}
 
 -- ---- what a step asks for
-
-of_file : (own : List LoadState) (step : StepValue) (bytes : List ℕ) → IsOfStream own step bytes → IsOfFile step bytes
-of_file own (steps.Commit name root) bytes is = (is.3, is.4)
-of_file own step bytes is = tt
 
 of_files_all : (own : ℕ → List LoadState) (fs : List FileEvent) → AreOfStreams own fs → AllByRecursion (λ f. IsOfFile f.event.step f.bytes) fs
 of_files_all own [] each = tt
@@ -45,7 +42,7 @@ no_opening bytes step = tt
 
 -- ---- what it makes of the names
 
-itself : (state : RunState (List ℕ)) (now : Found (List ℕ)) → MayBeFound of_files state now now
+pub itself : (state : RunState (List ℕ)) (now : Found (List ℕ)) → MayBeFound of_files state now now
 itself Running now = refl
 itself (Stopped None stores) now = refl
 itself (Stopped (Some other) stores) now = inl refl

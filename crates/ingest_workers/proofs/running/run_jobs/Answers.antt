@@ -1,9 +1,9 @@
 use Rattle.std.proofs.Common.{rules, ◌≡◌, ◌<◌, ℕ, List, length, map, reverse, get_or, sym, ap, ◌∙◌, subst}
-use Rattle.std.proofs.lemmas.List.{length-map}
+use Rattle.std.proofs.lemmas.List.{length-map, reverse-reverse}
 use Rattle.ingest_workers.specs.declared.workers.Worker.{Worker}
 use Rattle.ingest_workers.specs.Working.{AreGathered, HasDone}
 use Rattle.ingest_workers.proofs.Ended.{all_ended, did_there}
-use Rattle.ingest_workers.proofs.Seats.{map_reversed, reverse_twice, written}
+use Rattle.ingest_workers.proofs.Seats.{map_reversed, written}
 use Rattle.ingest_workers.proofs.running.run_jobs.Goals as goal
 
 pub returns-clause-ended : goal.returns-clause-ended
@@ -13,11 +13,12 @@ returns-clause-ended g c =
     let jobs = c.args.jobs.now in
     let ws = c.seat.new.workers.items in
     let vs = c.for_each_mut.new.s in
-    let old_is : map f ws ≡ c.args.callers.items = c.seat.ensures.callers ∙ ap reverse c.reverse.ensures.items ∙ reverse_twice c.args.callers.items in
+    let old_is : map f ws ≡ c.args.callers.items = c.seat.ensures.callers ∙ ap reverse c.reverse.ensures.items ∙ reverse-reverse c.args.callers.items in
     let many : length vs ≡ length ws = search rules in
     let len_is : c.seat.new.workers.len ≡ length vs = search rules in
     let turned : c.reverse-2.new.self.items ≡ reverse vs = c.reverse-2.ensures.items ∙ ap reverse (written c.seat.new.workers.len vs _ len_is) in
-    let new_is : c.unseat.new.callers.items ≡ map f vs = c.unseat.ensures ∙ ap (λ (l : List W). reverse (map f l)) turned ∙ ap reverse (map_reversed f vs) ∙ reverse_twice (map f vs) in
+    let new_is : c.unseat.new.callers.items ≡ map f vs = c.unseat.ensures ∙ ap (λ (l : List W). reverse (map f l)) turned ∙ ap reverse (map_reversed f vs)
+    ∙ reverse-reverse (map f vs) in
     let gathered = subst (λ (l : List W). AreGathered l jobs c.gather.new.ends.items) (c.deref.ensures.value ∙ written c.seat.new.workers.len vs _ len_is) c.gather.ensures in
     let did : (number : ℕ) (d : W) → number < length ws → HasDone g.S.StoreCalls.asks jobs (length ws) number (get_or ws number d) (get_or vs number d) =
     λ number d below.

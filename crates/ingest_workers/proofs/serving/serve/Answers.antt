@@ -15,8 +15,12 @@ returns-in_err-temp g c =
     ([], refl, by_error (λ (r : Result Root Refusal). IsServed c.args.job.now r []) c.from_residual.result Memory c.from_residual.ensures.1 (NoTemp [] (Untaken refl)))
 
 pub returns-in_err-work : goal.returns-in_err-work
-returns-in_err-work g c =
-    ([], refl, by_error (λ (r : Result Root Refusal). IsServed c.args.job.now r []) c.from_residual-in_err-work.result Memory c.from_residual-in_err-work.ensures.1 (NoTemp [] (Untaken refl)))
+returns-in_err-work g c = (
+  [],
+  refl,
+  by_error (λ (r : Result Root Refusal). IsServed c.args.job.now r []) c.from_residual-in_err-work.result Memory
+      c.from_residual-in_err-work.ensures.1 (NoTemp [] (Untaken refl)),
+)
 
 pub returns-in_err-store : goal.returns-in_err-store
 returns-in_err-store g c =
@@ -42,7 +46,8 @@ returns-in_err-root g c =
       one.0 ++ two.0,
       asks_append g.S.StoreCalls.asks c.args.caller.now c.store.new.caller c.store-2.new.caller one.0 two.0 one.1 two.1,
       by_error (λ (r : Result Root Refusal). IsServed job r (one.0 ++ two.0)) c.from_residual-in_err-root.result e c.from_residual-in_err-root.ensures.1
-          (NoWork one.0 two.0 first (subst (λ (n : List ℕ). Stores (file_of job) n first one.0) temp_is one.2) (subst (λ (n : List ℕ). Unstored (file_of job) n e two.0) work_is two.2)),
+          (NoWork one.0 two.0 first (subst (λ (n : List ℕ). Stores (file_of job) n first one.0) temp_is one.2)
+          (subst (λ (n : List ℕ). Unstored (file_of job) n e two.0) work_is two.2)),
     )
 
 pub returns-in_err-make : goal.returns-in_err-make

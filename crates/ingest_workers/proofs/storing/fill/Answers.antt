@@ -39,12 +39,14 @@ loop-piece-preserved g c =
     record {
       ongoing = ongoing;
       count = fed.count ∙ (let before = c.loop-piece.invariant.count in search rules);
-      stream = read.given ∙ ap (λ (x : LoadState). record x { given = stream.given + count }) c.loop-piece.invariant.stream ∙ ap (λ (n : ℕ). record file { given = n }) (sym given_is);
+      stream = read.given ∙ ap (λ (x : LoadState). record x { given = stream.given + count }) c.loop-piece.invariant.stream
+          ∙ ap (λ (n : ℕ). record file { given = n }) (sym given_is);
       under = λ start under none.
           let now = c.loop-piece.invariant.under start under none in
           let begins = begins_more file now.0.history.given piece stream.given count now.0.of_file.begins now.1 few (subst (λ (n : ℕ). stream.given + count ≤ n) length_is room)
           (λ i below. read.bytes i below ∙ ap (λ (x : LoadState). byte_of x.seed x.file (stream.given + i)) c.loop-piece.invariant.stream) in
-          let next = fed_under asks c.own.result file start c.loop-piece.session c.feed.new.session (take count piece) c.loop-piece.caller c.feed.new.core now.0 begins ongoing fed.feeds in
+          let next = fed_under asks c.own.result file start c.loop-piece.session c.feed.new.session
+          (take count piece) c.loop-piece.caller c.feed.new.core now.0 begins ongoing fed.feeds in
           (next.0, ap length next.1 ∙ longer now.0.history.given piece stream.given count now.1 few ∙ sym given_is);
     }
 
@@ -62,7 +64,8 @@ returns-in_err-feed-clause-fills g c =
     let length_is : stream.length ≡ file.length = ap (λ (x : LoadState). x.length) c.loop-piece.invariant.stream in
     let kept : c.feed.new.session.count ≡ stream.given = fed.kept ∙ c.loop-piece.invariant.count in
     let many : length (take count piece) ≡ count = search rules in
-    by_error (λ (r : Result (Unit {0}) Refusal). Fills asks file r c.args.session.now c.feed.new.session c.args.caller.now c.feed.new.core) c.from_residual.result e c.from_residual.ensures.1
+    by_error (λ (r : Result (Unit {0}) Refusal). Fills asks file r c.args.session.now c.feed.new.session c.args.caller.now c.feed.new.core)
+    c.from_residual.result e c.from_residual.ensures.1
     (λ start under none.
     let now = c.loop-piece.invariant.under start under none in
     unfed_stops asks c.own.result file start e c.loop-piece.session c.feed.new.session (take count piece) c.loop-piece.caller c.feed.new.core now.0

@@ -16,8 +16,10 @@ returns-in_err-fill g c =
     let asks = g.S.StoreCalls.asks in
     let file = file_of c.args.job.now in
     let e = c.in_err-fill.field-0.0 in
-    let fills = subst (λ (x : LoadState). Fills asks x (Err e) c.args.session.now c.fill.new.session c.args.caller.now c.fill.new.caller) c.new-stream.ensures c.in_err-fill.ensures.fills in
-    by_error (λ (r : Result Root Refusal). Commits asks file c.args.name.now r c.args.session.now c.args.caller.now c.fill.new.caller) c.from_residual.result e c.from_residual.ensures.1
+    let fills = subst (λ (x : LoadState). Fills asks x (Err e) c.args.session.now c.fill.new.session c.args.caller.now c.fill.new.caller)
+    c.new-stream.ensures c.in_err-fill.ensures.fills in
+    by_error (λ (r : Result Root Refusal). Commits asks file c.args.name.now r c.args.session.now c.args.caller.now c.fill.new.caller)
+    c.from_residual.result e c.from_residual.ensures.1
     (λ start under none. fills start under none c.args.name.now)
 
 pub returns-in_err-finish : goal.returns-in_err-finish
@@ -29,7 +31,8 @@ returns-in_err-finish g c =
     let fills = subst (λ (x : LoadState). Fills asks x (Ok tt) c.args.session.now s c.args.caller.now c.fill.new.caller) c.new-stream.ensures c.in_ok-fill.ensures.fills in
     by_error (λ (r : Result Root Refusal). Commits asks file c.args.name.now r c.args.session.now c.args.caller.now c.fill.new.caller)
     c.from_residual-in_err-finish.result e c.from_residual-in_err-finish.ensures.1
-    (λ start under none. memory_stops asks 0 file start e s c.fill.new.caller (fills start under none).0 (unfinished s e c.in_ok-fill.ensures.ongoing c.in_err-finish.ensures.refusal) c.args.name.now)
+    (λ start under none. memory_stops asks 0 file start e s c.fill.new.caller (fills start under none).0
+    (unfinished s e c.in_ok-fill.ensures.ongoing c.in_err-finish.ensures.refusal) c.args.name.now)
 
 pub returns-in_err-make_turns : goal.returns-in_err-make_turns
 returns-in_err-make_turns g c =

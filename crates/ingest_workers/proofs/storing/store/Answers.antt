@@ -11,8 +11,12 @@ use Rattle.ingest_workers.proofs.Feeding.{asks_snoc, fresh_under}
 use Rattle.ingest_workers.proofs.storing.store.Goals as goal
 
 pub returns-in_err-session : goal.returns-in_err-session
-returns-in_err-session g c =
-    ([], refl, by_error (λ (r : Result Root Refusal). IsStored (file_of c.args.job.now) c.args.name.now r []) c.from_residual.result Memory c.from_residual.ensures.1 (Untaken refl))
+returns-in_err-session g c = (
+  [],
+  refl,
+  by_error (λ (r : Result Root Refusal). IsStored (file_of c.args.job.now) c.args.name.now r [])
+      c.from_residual.result Memory c.from_residual.ensures.1 (Untaken refl),
+)
 
 pub returns-in_err-make : goal.returns-in_err-make
 returns-in_err-make g c =
@@ -28,7 +32,8 @@ pub returns-in-Ok : goal.returns-in-Ok
 returns-in-Ok g c =
     let answer = c.in_ok-make.field-0 in
     let a : Ask = record { step = asked.Begin; answer = Ok answer; buf = c.make.new.buf } in
-    let under = fresh_under g.S.StoreCalls.asks (file_of c.args.job.now) c.args.caller.now c.make.new.self c.in_ok-session.session a answer refl refl c.in_ok-make.ensures.fits c.in_ok-make.ensures.made
+    let under = fresh_under g.S.StoreCalls.asks (file_of c.args.job.now) c.args.caller.now c.make.new.self c.in_ok-session.session a answer refl refl
+    c.in_ok-make.ensures.fits c.in_ok-make.ensures.made
     c.in_ok-session.ensures.history c.in_ok-session.ensures.begun in
     c.in-Ok.ensures c.args.caller.now under.0 under.1
 
@@ -36,7 +41,8 @@ pub returns : goal.returns
 returns g c =
     let answer = c.in_ok-make.field-0 in
     let a : Ask = record { step = asked.Begin; answer = Ok answer; buf = c.make.new.buf } in
-    let under = fresh_under g.S.StoreCalls.asks (file_of c.args.job.now) c.args.caller.now c.make.new.self c.in_ok-session.session a answer refl refl c.in_ok-make.ensures.fits c.in_ok-make.ensures.made
+    let under = fresh_under g.S.StoreCalls.asks (file_of c.args.job.now) c.args.caller.now c.make.new.self c.in_ok-session.session a answer refl refl
+    c.in_ok-make.ensures.fits c.in_ok-make.ensures.made
     c.in_ok-session.ensures.history c.in_ok-session.ensures.begun in
     let stopped = c.in-Err.ensures c.args.caller.now under.0 under.1 in
     let e : Ask = record { step = asked.Abort; answer = c.make-given_up.result; buf = c.make-given_up.new.buf } in (

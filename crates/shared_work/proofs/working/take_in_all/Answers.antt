@@ -1,8 +1,9 @@
 use Rattle.std.proofs.Common.{rules, ◌≡◌, List, [], map, reverse, refl, sym, ap, subst, ◌∙◌}
+use Rattle.std.proofs.lemmas.List.{reverse-reverse}
 use Rattle.shared_store.specs.declared.caller.Caller.{Caller}
 use Rattle.shared_store.specs.Calls.{JoinsPass}
 use Rattle.shared_store.specs.Passes.{IsBusy}
-use Rattle.ingest_workers.proofs.Seats.{all_fewer, reverse_twice}
+use Rattle.ingest_workers.proofs.Seats.{all_fewer}
 use Rattle.shared_work.specs.Working.{JoinsAll}
 use Rattle.shared_work.proofs.Taking.{joins_last}
 use Rattle.shared_work.proofs.working.take_in_all.Goals as goal
@@ -27,6 +28,6 @@ returns g c =
     let state = g.C.HasState.state in
     let Callers = List (Caller g.row.C.Denot g.row.R.Denot) in
     let none : c.loop-caller.callers.items ≡ [] = search rules in
-    let turned : reverse c.reverse.new.self.items ≡ c.args.callers.items = ap reverse c.reverse.ensures.items ∙ reverse_twice c.args.callers.items in
+    let turned : reverse c.reverse.new.self.items ≡ c.args.callers.items = ap reverse c.reverse.ensures.items ∙ reverse-reverse c.args.callers.items in
     let over = subst (λ (l : Callers). JoinsAll state c.loop-caller.pass (map (λ x. x.0) (reverse l)) c.loop-caller.pass) (sym none) refl in
     subst (λ (l : Callers). JoinsAll state c.args.pass.now (map (λ x. x.0) l) c.loop-caller.pass) turned (c.loop-caller.invariant.joins c.loop-caller.pass over)

@@ -26,7 +26,8 @@ loop-i-preserved g c =
         own.0 ++ mine.0,
         asks_append g.S.StoreCalls.asks c.args.self.now.caller c.loop-i.self.caller c.do_own-end.new.self.caller own.0 mine.0 own.1 mine.1,
         subst (λ (l : List JobEnd). OwnJobs c.args.count c.args.number (take (i + 1) jobs) l (own.0 ++ mine.0)) (sym ends_are)
-            (subst (λ (l : List Job). OwnJobs c.args.count c.args.number l (c.loop-i.self.desk.ends.items ++ c.do_own-end.result ∷ []) (own.0 ++ mine.0)) (sym (take_more jobs i d below)) more),
+            (subst (λ (l : List Job). OwnJobs c.args.count c.args.number l (c.loop-i.self.desk.ends.items ++ c.do_own-end.result ∷ []) (own.0 ++ mine.0))
+            (sym (take_more jobs i d below)) more),
       );
       many = search rules;
       room = search rules;

@@ -41,7 +41,8 @@ module _ {V R : Type 0} (v : Values V R) where
   does a (asked.Claim seg) done.Held m n claims = still m n (ap told claims.others)
   does a (asked.Claim seg) done.Absent m n (keeps, told, is) = same m n is
   does a (asked.Seal offered) (done.Sealed id count) m n seals = still m n (added a (take count offered) m n seals.adds)
-  does a (asked.Commit name value) (done.Committed sequence) m n commits = (ap (λ (x : M). x.now) commits.others, (commits.sequence_is, tt), ap (λ (x : M). x.acknowledged) commits.others)
+  does a (asked.Commit name value) (done.Committed sequence) m n commits =
+      (ap (λ (x : M). x.now) commits.others, (commits.sequence_is, tt), ap (λ (x : M). x.acknowledged) commits.others)
   does a asked.Abort done.Aborted m n (kind, is) = still m n (ap told is)
   does a (asked.OpenRead name) (done.Opened count) m n (named, idle, (value, rest, has, starts, counted, is)) = still m n (ap told is)
   does a asked.ReadNext (done.Bytes bytes) m n (value, rest, after, reads, gives, is) = still m n (ap told is)

@@ -4,19 +4,18 @@ use Rattle.std.specs.List.{AllByRecursion}
 use Rattle.base_model.specs.Known.{KnownWith}
 use Rattle.dd_disk.specs.Ending.{Done, Reads}
 use Rattle.dd_disk.specs.View.{DiskView}
-use Rattle.actor_parts.specs.StepValue.{IsStep}
 use Rattle.store_model.specs.Collisions.{IsIn}
 use Rattle.turn_lock.specs.declared.history.Turn.{Turn}
 use Rattle.turn_lock.specs.History.{IsHistory, last_of}
-use Rattle.store_core.specs.Runs.{CoreRun, FileEvent, FileRun, RunsOn}
-use Rattle.store_core.specs.State.{CoreState, Event, IsRunning}
+use Rattle.store_core.specs.Runs.{FileRun, RunsOn}
+use Rattle.store_core.specs.State.{CoreState, IsRunning}
 use Rattle.store_machine.specs.ByMap.{FileMachine}
 use Rattle.core_machine.specs.FileOpenings.{DisksStand}
 use Rattle.core_machine.specs.Files.{FileRunsRefine, IsFileMachine, IsOfFile, MayStand, StandsFor}
 use Rattle.core_machine.specs.Refines.{CoreRefines, IsMachine}
 use Rattle.core_machine.specs.Runs.{RunsRefine}
 use Rattle.shared_store.specs.Histories.{AreFileCalls, AreFileRuns, AreRootCalls, AreRootRuns, AreSteps, EndsStand, IsRight, events_in, file_actor, files_in, makers}
-use Rattle.shared_store.specs.Made.{MadeBy, actor_in}
+use Rattle.shared_store.specs.Made.{MadeBy}
 
 -- a disk that is only read stands for what it stood for
 read_stands : (S : List ℕ → Type 0) (m : FileMachine) (old new : DiskView) → Reads Done old new → StandsFor S m old → StandsFor S m new

@@ -1,5 +1,5 @@
 -- From what the lock tells of its passes to what the store does.
-use Rattle.std.proofs.Common.{◌≡◌, ◌≤◌, ◌<◌, ◌+◌, ℕ, List, [], ◌∷◌, length, false, sym, ap, ◌∙◌, subst}
+use Rattle.std.proofs.Common.{◌≡◌, ◌≤◌, ◌<◌, ◌+◌, ℕ, [], length, false, sym, ap, ◌∙◌, subst}
 use Rattle.actor_parts.specs.declared.actor.TheConstants.{ACTORS}
 use Rattle.refusals.specs.declared.refusal.PartKind.TheVariants.{Idle}
 use Rattle.turn_lock.specs.declared.history.Home.{Home}

@@ -1,20 +1,16 @@
 -- What is told of a number in a history that grows.
-use Rattle.std.proofs.Common.{◌≡◌, ◌≢◌, ℕ, ◌+◌, ◌≤◌, List, [], ◌∷◌, ◌++◌, map, length, refl, sym, ap, ◌∙◌, subst, Some, Result, MatchBool, arith, append_assoc, append-nil, eq-eqb, ne_eqb, if◌then◌else◌, ◌==◌}
+use Rattle.std.proofs.Common.{◌≡◌, ◌≢◌, ℕ, ◌+◌, ◌≤◌, List, [], ◌∷◌, ◌++◌, map, length, refl, sym, ap, ◌∙◌, subst, Some, MatchBool, arith, append_assoc, append-nil, eq-eqb, ne_eqb, if◌then◌else◌, ◌==◌}
 use mathlib.Core.Logic.{dite}
 use native.Mathlib.Decide.{ℕ_discrete}
 use Rattle.actor_parts.specs.declared.answered.Answered.{Answered}
-use Rattle.actor_parts.specs.declared.step.Answer.{Answer}
 use Rattle.actor_parts.specs.Asking.{Ask, AsksAll}
-use Rattle.actor_parts.specs.StepValue.{StepValue}
-use Rattle.refusals.specs.declared.refusal.Refusal.{Refusal}
 use Rattle.turn_lock.specs.declared.history.Turn.{Turn}
 use Rattle.turn_lock.specs.declared.history.View.{View}
 use Rattle.turn_lock.specs.History.{last_of, turns_by, times, turn_of}
 use Rattle.turn_lock.specs.Lock.{own_of}
-use Rattle.turn_lock.specs.Rule.{Follows}
 use Rattle.store_core.specs.Core.{CoreStep}
 use Rattle.store_core.specs.State.{CoreState, Event}
-use Rattle.shared_store.specs.Calls.{Called, Calls}
+use Rattle.shared_store.specs.Calls.{Called}
 use Rattle.shared_store.specs.Made.{MakesStep, actor_in, steps_in}
 use Rattle.shared_store.specs.Passes.{PassValue, actor_of}
 use Rattle.shared_store.specs.Events.{event_of}

@@ -183,7 +183,7 @@ so_copies from (None ∷ cs) image so = so_copies (from + 1) cs image so
 so_copies from (Some h ∷ cs) image so = (so.0, so_copies (from + 1) cs image so.1)
 
 -- a slot that has a container still is none of those that were closed
-not_freed : (freed : List ℕ) (s : Store) (slot : ℕ) (h : HeaderValue) → slice_get (with_all_freed freed s).held slot ≡ Some (Some h)
+pub not_freed : (freed : List ℕ) (s : Store) (slot : ℕ) (h : HeaderValue) → slice_get (with_all_freed freed s).held slot ≡ Some (Some h)
     → AllByRecursion (λ gone. gone ≢ slot) freed × (slice_get s.held slot ≡ Some (Some h))
 not_freed [] s slot h there = (tt, there)
 not_freed (gone ∷ rest) s slot h there =

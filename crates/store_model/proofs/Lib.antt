@@ -8,6 +8,7 @@ pub mod FramedTrees
 pub mod Frames
 pub mod Free
 pub mod Freed
+pub mod FreedAll
 pub mod FreedFiles
 pub mod FreedTrees
 pub mod HeldKept

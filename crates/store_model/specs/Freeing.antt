@@ -1,5 +1,5 @@
--- Containers that an opening gives back (docs/MODEL.md, 'The reserve').
-use Rattle.std.specs.Prelude.{◌≡◌, ◌⊎◌, ◌+◌, ◌<◌, ◌≤◌, ℕ, List, [], ◌∷◌, length, slice_get, take, Some}
+-- Containers that are given back (docs/MODEL.md, 'The reserve').
+use Rattle.std.specs.Prelude.{◌≡◌, ◌⊎◌, ◌+◌, ◌<◌, ◌≤◌, ℕ, Bool, true, false, List, [], ◌∷◌, length, slice_get, take, Some}
 use Rattle.std.specs.List.{AllByRecursion}
 use Rattle.base_model.specs.Bytes.{range}
 use Rattle.container_meta.specs.Spelling.{HeaderValue}
@@ -17,6 +17,13 @@ with_freed slot store = record store { held = without_slot slot store.held }
 abbrev pub with_all_freed : List ℕ → Store → Store
 with_all_freed [] store = store
 with_all_freed (slot ∷ rest) store = with_all_freed rest (with_freed slot store)
+
+-- once those are that are marked
+abbrev pub without_some : List Bool → List ℕ → Store → Store
+without_some [] slots store = store
+without_some (mark ∷ marks) [] store = store
+without_some (true ∷ marks) (slot ∷ slots) store = without_some marks slots (with_freed slot store)
+without_some (false ∷ marks) (slot ∷ slots) store = without_some marks slots store
 
 -- Of the containers that hold the newest copy of no key of which P holds, the slot has that of the least id.
 pub record IsLeastSpare (P : List ℕ → Type 0) (store : Store) (slot : ℕ) : Type 0 where

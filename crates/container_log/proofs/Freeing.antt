@@ -12,11 +12,11 @@ use Rattle.dd_disk.proofs.Writes.{writes_weaker}
 use Rattle.container_meta.specs.Spelling.{HeaderValue, header_size, front_spelling}
 use Rattle.container_meta.proofs.Again.{header_fits}
 use Rattle.store_model.specs.Slots.{HoldsSlot}
-use Rattle.container_log.specs.Many.{AreSlots, NoGate, HaveGates, FreesAll, AreFreed}
+use Rattle.container_log.specs.Many.{AreApart, NoGate, HaveGates, FreesAll, AreFreed}
 use Rattle.container_log.proofs.Sealing.{bytes_still, by_gate}
 
 -- with its gate a header stands as it did
-header_still : (slots : List ℕ) (old new : List ℕ) (slot : ℕ) (h : HeaderValue) → slot_at slot + SLOT_BYTES ≤ length old → SameIn (NoGate slots) old new →
+pub header_still : (slots : List ℕ) (old new : List ℕ) (slot : ℕ) (h : HeaderValue) → slot_at slot + SLOT_BYTES ≤ length old → SameIn (NoGate slots) old new →
     HoldsSlot old slot (Some h) → byte_at (slot_at slot) new ≡ CONTAINER_GATE → HoldsSlot new slot (Some h)
 unfolding front_spelling
 header_still slots old new slot h fits same held opened =
@@ -36,7 +36,7 @@ header_still slots old new slot h fits same held opened =
           ∙ held.1,
     )
 
-pub writes_freed : (slots : List ℕ) (e : Ending) (old new : DiskView) → AreSlots old.size slots → Writes (λ _. SameIn (NoGate slots)) (HaveGates 0 (length slots) slots) e old new
+pub writes_freed : (slots : List ℕ) (e : Ending) (old new : DiskView) → AreApart old.size slots → Writes (λ _. SameIn (NoGate slots)) (HaveGates 0 (length slots) slots) e old new
     → Writes (λ _. FreesAll slots) (AreFreed slots) e old new
 writes_freed slots e old new are writes =
     writes_weaker (λ _. SameIn (NoGate slots)) (λ _. FreesAll slots) (HaveGates 0 (length slots) slots) (AreFreed slots) old new (λ given c known part. part) e

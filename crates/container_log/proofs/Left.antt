@@ -29,7 +29,7 @@ few_in : (p n : ℕ) (a : List ℕ) → length (range p n a) ≤ n
 unfolding range
 few_in p n a = omega (arith, length-take n (drop p a))
 
-same_range : (p n : ℕ) (a b : List ℕ) → length b ≡ length a → ((k : ℕ) → k < n → byte_at (p + k) b ≡ byte_at (p + k) a) → range p n b ≡ range p n a
+pub same_range : (p n : ℕ) (a b : List ℕ) → length b ≡ length a → ((k : ℕ) → k < n → byte_at (p + k) b ≡ byte_at (p + k) a) → range p n b ≡ range p n a
 same_range p n a b long each =
     ext_get_or 0 (range p n b) (range p n a) (same_length p n a b long)
     (λ k less. let within : k < n = omega (arith, less, few_in p n b) in byte-range k p n b within ∙ each k within ∙ sym (byte-range k p n a within))

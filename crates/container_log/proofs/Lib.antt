@@ -1,6 +1,7 @@
 mod Bodies
 mod Differ
 mod FirstBytes
+mod FreedInTurn
 mod Freeing
 mod Gates
 pub mod Headers

@@ -21,7 +21,7 @@ use Rattle.container_log.specs.Writing.{SameButSlot, SameButGate, Seals, IsSeale
 use Rattle.container_log.proofs.Bodies.{some_same}
 
 -- the one element of a list is so
-one_so : {A : Type 0} (P : ℕ → A → Type 0) (x : A) → P 0 x → (i : ℕ) (y : A) → slice_get (x ∷ []) i ≡ Some y → P i y
+pub one_so : {A : Type 0} (P : ℕ → A → Type 0) (x : A) → P 0 x → (i : ℕ) (y : A) → slice_get (x ∷ []) i ≡ Some y → P i y
 one_so P x so zero y here = subst (P 0) (some_same x y here) so
 one_so P x so (suc i) y here = absurd cc
 

@@ -1,5 +1,5 @@
 -- Several containers that are sealed together, and several slots that are closed together: what the slots hold meanwhile, and after.
-use Rattle.std.specs.Prelude.{◌≡◌, ◌⊎◌, ℕ, suc, ◌+◌, ◌<◌, ◌≤◌, List, [], ◌∷◌, length, drop, get_or, slice_get, true, Some, None, Result, IfOk}
+use Rattle.std.specs.Prelude.{◌≡◌, ◌≢◌, ◌⊎◌, ℕ, suc, ◌+◌, ◌<◌, ◌≤◌, List, [], ◌∷◌, length, drop, get_or, slice_get, true, Some, None, Result, IfOk}
 use Rattle.base_model.specs.Bytes.{range, byte_at}
 use Rattle.disk_format.specs.declared.numbers.TheConstants.{SLOT_BYTES}
 use Rattle.disk_format.specs.Layout.{slot_at}
@@ -15,6 +15,11 @@ use Rattle.store_model.specs.Together.{Placed}
 pub record AreSlots (size : ℕ) (slots : List ℕ) : Type 0 where
   pub within : (i slot : ℕ) → slice_get slots i ≡ Some slot → slot_at slot + SLOT_BYTES ≤ size
   pub rise : (i j low high : ℕ) → i < j → slice_get slots i ≡ Some low → slice_get slots j ≡ Some high → low < high
+
+-- the slots lie in a disk of this size, in any order, and none of them twice
+pub record AreApart (size : ℕ) (slots : List ℕ) : Type 0 where
+  pub within : (i slot : ℕ) → slice_get slots i ≡ Some slot → slot_at slot + SLOT_BYTES ≤ size
+  pub apart : (i j one other : ℕ) → i < j → slice_get slots i ≡ Some one → slice_get slots j ≡ Some other → one ≢ other
 
 -- each of the containers has a segment
 abbrev pub HaveSegments : List Contents → Type 0
@@ -127,3 +132,8 @@ FreesAll slots old new =
 -- each has the gate 0, and all but the gates is as it was
 abbrev pub AreFreed : List ℕ → List ℕ → List ℕ → Type 0
 AreFreed slots given new = HaveGates 0 (length slots) slots given new
+
+-- R holds of each slot, one after the other, between an image and the next
+abbrev pub OneByOne : (ℕ → List ℕ → List ℕ → Type 0) → List ℕ → List ℕ → List ℕ → Type 0
+OneByOne R [] old new = new ≡ old
+OneByOne R (slot ∷ slots) old new = (mid : List ℕ) × R slot old mid × OneByOne R slots mid new

@@ -14,4 +14,4 @@ pub use fault::LogFault;
 pub use inspecting::inspect_slots;
 pub use reading::{Spot, read_meta, read_segment};
 pub use slot::read_slot;
-pub use writing::{free, free_all, seal, seal_all, sealed_one_by_one};
+pub use writing::{free, free_all, freed_one_by_one, seal, seal_all, sealed_one_by_one};

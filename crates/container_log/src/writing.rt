@@ -14,6 +14,7 @@ ghost use Rattle.container_log.specs.declared.fault.LogFault.TheVariants.{DiskWr
 ghost use Rattle.container_log.specs.Faults.{blames};
 ghost use Rattle.container_log.specs.Many.{
   AreSlots,
+  AreApart,
   NoBody,
   NoGate,
   HaveBodies,
@@ -25,6 +26,7 @@ ghost use Rattle.container_log.specs.Many.{
   AreSealed,
   FreesAll,
   AreFreed,
+  OneByOne,
   placed,
   spelling_of,
 };
@@ -104,7 +106,7 @@ fn sync_bodies<D: Disk>(
 
 // Writes a byte over the gate of each of these slots.
 fn write_gates<D: Disk>(disk: &mut D, slots: &[u32], gate: u8) -> Result<(), DiskFault>
-    requires { AreSlots (D.view disk.old).size slots.now }
+    requires { AreApart (D.view disk.old).size slots.now }
     ensures { Wrote (SameIn (NoGate slots.now)) (HaveGates gate (length slots.now) slots.now)
         (ending (λ _. WriteCall) result) (D.view disk.old) (D.view disk.new) }
 {
@@ -116,7 +118,7 @@ fn write_gates<D: Disk>(disk: &mut D, slots: &[u32], gate: u8) -> Result<(), Dis
 
 // The same, and a sync.
 fn sync_gates<D: Disk>(disk: &mut D, slots: &[u32], gate: u8) -> Result<(), DiskFault>
-    requires { AreSlots (D.view disk.old).size slots.now }
+    requires { AreApart (D.view disk.old).size slots.now }
     ensures { Writes (λ _. SameIn (NoGate slots.now)) (HaveGates gate (length slots.now) slots.now)
         (ending (λ _. WriteCall) result) (D.view disk.old) (D.view disk.new) }
 {
@@ -208,10 +210,10 @@ pub fn seal<D: Disk>(
     Ok(digest)
 }
 
-/// Closes slots of the disk with one sync: writes 0 over their gates. Each lies past the one before it. Where it fails some of
+/// Closes slots of the disk, none of them twice, with one sync: writes 0 over their gates, in their order. Where it fails some of
 /// them may be closed, whichever. The one error is `LogFault::DiskWrite`.
 pub fn free_all<D: Disk>(disk: &mut D, slots: &[u32]) -> Result<(), LogFault>
-    requires { AreSlots (D.view disk.old).size slots.now }
+    requires { AreApart (D.view disk.old).size slots.now }
     ensures writes { Writes (λ _. FreesAll slots.now) (AreFreed slots.now) (ending blames result) (D.view disk.old) (D.view disk.new) }
     ensures fault { IfErr result (λ fault. fault ≡ DiskWrite) }
 {
@@ -242,4 +244,13 @@ pub fn sealed_one_by_one()
     ensures all { (size id : ℕ) (slots : List ℕ) (filled : List Contents) (given new : List ℕ) → AreSlots size slots
         → length filled ≡ length slots → length given ≡ size → AreSealed slots id filled given new
         → AreLeftSo IsThere (placed slots id filled) given new }
+{}
+
+/// That slots which are closed together are closed one after the other: what a crash leaves of them meanwhile, each closed or not;
+/// and in the end each is.
+pub fn freed_one_by_one()
+    ensures some { (size : ℕ) (slots : List ℕ) (old new : List ℕ) → AreApart size slots → length old ≡ size
+        → FreesAll slots old new → OneByOne Frees slots old new }
+    ensures all { (size : ℕ) (slots : List ℕ) (given new : List ℕ) → AreApart size slots → length given ≡ size
+        → AreFreed slots given new → OneByOne IsFreed slots given new }
 {}

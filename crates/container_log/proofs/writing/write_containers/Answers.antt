@@ -1,9 +1,10 @@
-use Rattle.std.proofs.Common.{refl}
+use Rattle.std.proofs.Common.{ℕ, refl, subst, sym}
 use Rattle.dd_disk.specs.Ending.{WriteCall}
 use Rattle.dd_disk.specs.Writes.{Writes}
 use Rattle.dd_disk.proofs.Moves.{passed}
 use Rattle.dd_disk.proofs.Writes.{never_refused}
-use Rattle.container_log.specs.Many.{SealsAll, AreSealed}
+use Rattle.container_log.specs.Many.{AreSlots, SealsAll, AreSealed}
+use Rattle.container_log.proofs.FreedInTurn.{apart_of}
 use Rattle.container_log.proofs.Sealing.{bodies_broken, writes_together}
 use Rattle.container_log.proofs.writing.write_containers.Goals as goal
 
@@ -19,3 +20,7 @@ pub returns-clause-writes : goal.returns-clause-writes
 returns-clause-writes g c =
     writes_together _ c.args.slots.now c.args.id c.args.filled.now c.requires.places _ _ _ _ refl (never_refused c.sync_gates.result) c.in_ok-sync_bodies.ensures.writes
     c.sync_gates.ensures
+
+pub sync_gates-requires : goal.sync_gates-requires
+sync_gates-requires g c =
+    apart_of _ c.args.slots.now (subst (λ (n : ℕ). AreSlots n c.args.slots.now) (sym c.in_ok-sync_bodies.ensures.writes.later.size_is) c.requires.places)

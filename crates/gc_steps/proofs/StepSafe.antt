@@ -1,25 +1,29 @@
 -- What the next step of a collection leaves, when it is done: it is safe, and no key that is needed is lost.
-use Rattle.gc_steps.proofs.Prelude.{◌≡◌, ◌⊎◌, inl, inr, ℕ, ◌+◌, ◌<◌, ◌≤◌, List, length, Option, Some, None, refl, sym, ◌∙◌, ap, subst, arith, slice_get, All, AllByRecursion, ACTORS, Part, Entry, PlaceMap, entries_from, segment_key, HeaderValue, header_of, Ending, Done, StandsFor, DiskView, OnlyReads, slot_at, LiveKeys, child_keys, SealsIndexed, NameMap, Changes, ByteSet, IsIn, Stands, Files, IsValidFor, Store, names_of, entry_key, with_entries, AreHeaders, HasFree, HasKey, IsPartialIndexOf, first_free, IsStoreOf, with_sealed, HasNewest, bytes_at, node_key, some_same, there_before, entry_of, put_none, CoreInvariant, Represents, RepresentsSlots, Tables, Next, CopyNext, Flush, Release, End, SweepValue, CopiesSource, HoldsSweep, IsLive, SourcesStand, HasReleased, slot_in_turn, HasFreed, HasNoEntryIn, IsSweeping, holds_copied, are_newest, may_flush, Collection, Stage, Mark, Filter, Select, Chooses, Records, HoldsNode, IsWhole, Scans, MarksAreClosed, NewAreLive, IsRoot, IsNeeded, IsSafe, IsSafeAt, filter_at, first_slot, is_old_slot, mark_from, Flushes, StepsTo, TablesAfter, Touches, moment, HoldsAt, SweepIsSafe, IsUnderWay}
-use Rattle.std.proofs.Common.{get_or}
+use Rattle.gc_steps.proofs.Prelude.{◌≡◌, ◌⊎◌, inl, inr, ℕ, ◌+◌, ◌<◌, ◌≤◌, List, length, Option, Some, None, refl, sym, ◌∙◌, ap, subst, arith, slice_get, All, AllByRecursion, ACTORS, Part, Entry, PlaceMap, entries_from, segment_key, HeaderValue, header_of, Ending, Done, StandsFor, DiskView, OnlyReads, slot_at, LiveKeys, child_keys, SealsIndexed, NameMap, Changes, ByteSet, IsIn, Stands, Files, IsValidFor, Store, names_of, entry_key, with_entries, AreHeaders, HasFree, HasKey, IsPartialIndexOf, first_free, IsStoreOf, with_sealed, HasNewest, bytes_at, node_key, some_same, entry_of, put_none, CoreInvariant, Represents, RepresentsSlots, Tables, Next, CopyNext, Flush, Release, End, SweepValue, CopiesSource, HoldsSweep, IsLive, SourcesStand, HasReleased, HasFreed, IsSweeping, holds_copied, are_newest, may_flush, Collection, Stage, Mark, Filter, Select, Chooses, Records, HoldsNode, IsWhole, Scans, MarksAreClosed, NewAreLive, IsRoot, IsNeeded, IsSafe, IsSafeAt, filter_at, first_slot, is_old_slot, mark_from, Flushes, StepsTo, TablesAfter, Touches, moment, HoldsAt, SweepIsSafe, IsUnderWay}
+use Rattle.std.proofs.Common.{get_or, [], ◌∷◌}
+use Rattle.std.specs.Prelude.{nat_eq}
+use Rattle.std.specs.List.{IsDistinct}
 use Rattle.container_meta.specs.Segments.{Contents}
 use Rattle.dd_disk.specs.View.{IsLater}
 use Rattle.dd_disk.specs.Writes.{Both}
 use Rattle.merkle_file.specs.Node as node
 use Rattle.segment_index.specs.Changes.{SameBefore}
-use Rattle.store_model.specs.Freeing.{with_freed}
+use Rattle.store_model.specs.Freeing.{with_all_freed}
 use Rattle.store_model.specs.Reserve.{HasReserve}
 use Rattle.store_model.specs.Slots.{Copy}
 use Rattle.store_model.specs.Steps.{CanFlush}
 use Rattle.store_model.proofs.FramedTrees.{newest_framed, stands_framed}
+use Rattle.store_model.proofs.FreedFiles.{not_freed, same_but_held}
 use Rattle.store_model.proofs.Valid.{valid_sealed}
 use Rattle.store_state.proofs.Parts.{parts_kept}
-use Rattle.gc_sweep.specs.Releasing.{GivesBack}
+use Rattle.gc_sweep.specs.Releasing.{GivesBack, HasNoEntryInAny}
+use Rattle.gc_sweep.specs.UnderWay.{sources_before}
 use Rattle.gc_sweep.proofs.Holds.{begun_holds, in_turn}
 use Rattle.gc_sweep.proofs.HoldsCopied.{leaves_on_disk}
 use Rattle.gc_sweep.proofs.HoldsFlushed.{holds_flushed}
 use Rattle.gc_sweep.proofs.HoldsReleased.{holds_released}
 use Rattle.gc_sweep.proofs.HoldsRoom.{has_reserve, one_free}
-use Rattle.gc_sweep.proofs.InSlots.{copy_of, sources_stand}
+use Rattle.gc_sweep.proofs.InSlots.{IsSourceIn, copy_of, sources_stand}
 use Rattle.gc_sweep.proofs.Leaves.{LeavesStore, copy_leaves, flush_leaves, live_keys, release_leaves}
 use Rattle.gc_steps.specs.declared.collection.Stage.TheVariants.{Sweep}
 use Rattle.gc_steps.proofs.ChildTrees.{children_whole}
@@ -32,15 +36,20 @@ use Rattle.gc_steps.proofs.Started.{root_whole}
 use Rattle.gc_steps.proofs.UnderWay.{at_stage}
 use Rattle.gc_sweep.specs.Copying.{copy_step}
 
--- A container of a store is given back: one of the sources, in whose slot the index has no entry.
-pub record IsFreeing (index : PlaceMap) (s : SweepValue) (slot : ℕ) (store store_now : Store) : Type 0 where
+-- A source stands in a slot.
+pub record IsSourceAt (held : List (Option HeaderValue)) (sources : List ℕ) (slot : ℕ) : Type 0 where
   pub header : HeaderValue
-  pub there : slice_get store.held slot ≡ Some (Some header)
+  pub there : slice_get held slot ≡ Some (Some header)
   pub number : ℕ
-  pub within : number < length s.sources.items
-  pub id_is : header.id ≡ get_or s.sources.items number 0
-  pub none : HasNoEntryIn index slot
-  pub now_is : store_now ≡ with_freed slot store
+  pub within : number < length sources
+  pub id_is : header.id ≡ get_or sources number 0
+
+-- Containers of a store are given back: sources, in whose slots the index has no entry.
+pub record IsFreeing (index : PlaceMap) (s : SweepValue) (slots : List ℕ) (store store_now : Store) : Type 0 where
+  pub stand : AllByRecursion (IsSourceAt store.held s.sources.items) slots
+  pub apart : IsDistinct nat_eq slots
+  pub none : HasNoEntryInAny index slots
+  pub now_is : store_now ≡ with_all_freed slots store
 
 -- A container of copies is written, each of which is the newest copy of its key, under an id from the snapshot on.
 pub record IsFlushing (snapshot : ℕ) (filled : Contents) (store store_now : Store) (image : List ℕ) : Type 0 where
@@ -50,11 +59,11 @@ pub record IsFlushing (snapshot : ℕ) (filled : Contents) (store store_now : St
   pub newest : AllByRecursion (λ x. HasNewest store.held (segment_key filled.kind x) x.level x.bytes image) filled.segments
   pub now_is : store_now ≡ with_sealed id filled.kind filled.segments store
 
--- The store stays; but where copies are written it has their container, and where the source in turn is given back it is that with its slot
--- closed.
+-- The store stays; but where copies are written it has their container, and where the sources that are ready are given back it is that with
+-- their slots closed.
 abbrev pub IsStoreAfter : Stage → Next → ℕ → SweepValue → PlaceMap → Store → Store → List ℕ → Type 0
 IsStoreAfter Sweep (Flush source entry) snapshot s index store store_now image = IsFlushing snapshot s.buffer store store_now image
-IsStoreAfter Sweep (Release source entry) snapshot s index store store_now image = IsFreeing index s (slot_in_turn s) store store_now
+IsStoreAfter Sweep (Release source entry) snapshot s index store store_now image = IsFreeing index s s.ready.items store store_now
 IsStoreAfter stage next snapshot s index store store_now image = store_now ≡ store
 
 -- the keys that were needed are in the index, and their newest copies are what they were
@@ -439,33 +448,36 @@ module _ (index : PlaceMap) (store : Store) (files : Files) (parts : List Part) 
           (record { id = id; new = omega (arith, under.began); can = can; newest = are_newest index store.held image c.live c.snapshot c.sweep was_held.1; now_is = refl }))
           (safe_on more written left flushes.sweeps refl holds_now new_live)
 
-    -- A source is given back.
-    release_leaves_safe : (source entry : ℕ) → c.sweep.next ≡ Release source entry → HasFreed t (slot_in_turn c.sweep) u → HasReleased u.held source entry c.sweep d.sweep
+    -- The sources that are ready are given back.
+    sources_at : (before : ℕ) → before ≤ length c.sweep.sources.items → (slots : List ℕ)
+        → AllByRecursion (IsSourceIn store.held c.snapshot c.sweep.sources.items before) slots → AllByRecursion (IsSourceAt store.held c.sweep.sources.items) slots
+    sources_at before few [] all = tt
+    sources_at before few (slot ∷ slots) all = (
+      record { header = all.0.header; there = all.0.there; number = all.0.number; within = omega (arith, all.0.below, few); id_is = all.0.id_is },
+      sources_at before few slots all.1,
+    )
+
+    release_leaves_safe : (source entry : ℕ) → c.sweep.next ≡ Release source entry → HasFreed t c.sweep.ready.items u → HasReleased u.held source entry c.sweep d.sweep
         → d ≡ record c { sweep = d.sweep }
-        → known ≡ Some index → IsLater old new → GivesBack t (slot_in_turn c.sweep) Done old new → LeavesSafe c index store files parts image now among u known new d
+        → known ≡ Some index → IsLater old new → GivesBack t c.sweep.ready.items Done old new → LeavesSafe c index store files parts image now among u known new d
     release_leaves_safe source entry next_is freed released on known_is goes gives =
-        let slot : ℕ = slot_in_turn c.sweep in
+        let slots : List ℕ = c.sweep.ready.items in
         let turn = in_turn t.held index store.held image c.live c.snapshot source entry c.sweep represents.slots_hold sweeping next_is was_held.1 in
-        let fewer : Store = with_freed slot store in
+        let fewer : Store = with_all_freed slots store in
         let left : Left index fewer =
-        release_leaves index store files parts image now among t u old new c.live core represents valid content content_now stands slot turn.stands.header turn.stands.there
-        turn.none freed goes gives in
-        left_safe index fewer left on refl known_is
+        release_leaves index store files parts image now among t u old new c.live core represents valid content content_now stands slots turn.none freed goes gives in
+        left_safe index fewer left on (ap names_of (same_but_held slots store)) known_is
         (at_stage_next (λ s n. IsStoreAfter s n c.snapshot c.sweep index store fewer image) Sweep (Release source entry) stage_is next_is
         (record {
-          header = turn.stands.header;
-          there = turn.stands.there;
-          number = turn.stands.number;
-          within = omega
-              (arith, turn.stands.below, sweeping.before);
-          id_is = turn.stands.id_is;
+          stand = sources_at (sources_before c.sweep c.sweep.next) sweeping.before slots turn.stand;
+          apart = turn.apart;
           none = turn.none;
           now_is = refl;
         }))
-        (safe_on index fewer left on refl
-        (holds_released t.held u.held index store.held image now c.live c.snapshot source entry c.sweep d.sweep represents.slots_hold sweeping next_is released was_held.1
+        (safe_on index fewer left on (ap names_of (same_but_held slots store))
+        (holds_released t.held u.held index store image now c.live c.snapshot source entry c.sweep d.sweep represents.slots_hold sweeping next_is released was_held.1
         (λ key level bytes has. gives.holds among store index files image now represents core.files_are_indexed turn.none content content_now here key level bytes has))
-        (λ other h there above. safe.new_are_live other h (there_before slot other h store.held there).1 above))
+        (λ other h there above. safe.new_are_live other h (not_freed slots store other h there).1 above))
 
   -- ---- whatever the stage
 

@@ -1,5 +1,5 @@
 -- What a step of the sweep does to the whole collection.
-use Rattle.gc_steps.proofs.Prelude.{◌≡◌, ℕ, ◌<◌, Option, Some, None, refl, sym, ◌∙◌, ap, subst, arith, PlaceMap, Plan, MapStays, Ending, DiskView, size_of, slot_at, Refusal, Changes, KnownMap, Runs, Tables, Next, Flush, Release, SweepValue, CopiesSource, HasFlushed, HasReleased, slot_in_turn, HasFreed, steps_left, IsSweeping, Collection, Stage, Did, GoesBy, IsStepRefusal, Keeps, Makes, Moment, RunsOn, StepsTo, TablesAfter, Touches, answer_at, moment, steps_to_come, IsUnderWay}
+use Rattle.gc_steps.proofs.Prelude.{◌≡◌, ℕ, ◌<◌, Option, Some, None, refl, sym, ◌∙◌, ap, subst, arith, PlaceMap, Plan, MapStays, Ending, DiskView, size_of, slot_at, Refusal, Changes, KnownMap, Runs, Tables, Next, Flush, Release, SweepValue, CopiesSource, HasFlushed, HasReleased, HasFreed, steps_left, IsSweeping, Collection, Stage, Did, GoesBy, IsStepRefusal, Keeps, Makes, Moment, RunsOn, StepsTo, TablesAfter, Touches, answer_at, moment, steps_to_come, IsUnderWay}
 use Rattle.base_model.specs.Known.{Known}
 use Rattle.copy_forward.specs.Copying.{Forgets}
 use Rattle.dd_disk.specs.View.{IsDurable}
@@ -93,9 +93,9 @@ module _ (t u : Tables) (known now : Option PlaceMap) (old new : DiskView) (c : 
     nearer = λ chosen most. fewer chosen (flush_nears t.held c.snapshot source entry c.sweep s sweeping next_is flushed);
   }
 
-  -- ---- a source was given back
+  -- ---- what was ready was given back
 
-  pub release_made : (next_is : c.sweep.next ≡ Release source entry) (size : new.size ≡ old.size) → HasFreed t (slot_in_turn c.sweep) u → HasReleased u.held source entry c.sweep s
+  pub release_made : (next_is : c.sweep.next ≡ Release source entry) (size : new.size ≡ old.size) → HasFreed t c.sweep.ready.items u → HasReleased u.held source entry c.sweep s
       → IsDurable new
       → Known old.content (λ _. now ≡ known) → Makes before after (Did phases.Release)
   release_made next_is size freed released durable map = record {

@@ -22,8 +22,8 @@ use Rattle.gc_sweep.specs.declared.sweep.Next.TheVariants.{Copy, Flush, Release,
 use Rattle.gc_sweep.specs.declared.sweep.Sweep.{Sweep as SweepValue}
 use Rattle.gc_sweep.specs.Copying.{CopiesSource, IsCopyStepRefusal, copy_step}
 use Rattle.gc_sweep.specs.Flushing.{HasFlushed, IsFlushStepRefusal, WritesCopies}
-use Rattle.gc_sweep.specs.InTurn.{HasReleased, slot_in_turn}
-use Rattle.gc_sweep.specs.Releasing.{ChangesGateAlone, GivesBack, HasFreed, HasNoEntryIn}
+use Rattle.gc_sweep.specs.InTurn.{HasReleased}
+use Rattle.gc_sweep.specs.Releasing.{ChangesGatesAlone, GivesBack, HasFreed, HasNoEntryInAny}
 use Rattle.gc_steps.specs.declared.collection.Collection.{Collection}
 use Rattle.gc_steps.specs.declared.collection.Stage.{Stage}
 use Rattle.gc_steps.specs.declared.collection.Stage.TheVariants.{Mark, Filter, Select, Sweep}
@@ -77,7 +77,7 @@ pub record Flushes (source entry : ℕ) (old new : Moment) : Type 0 where
   pub flushed : HasFlushed source entry old.collection.sweep new.collection.sweep
   pub sweeps : SweepsOn old new
 
--- What it does to the collection and to the map of the index, which stays where a container is given back if the disk tells its content; at
+-- What it does to the collection and to the map of the index, which stays where containers are given back if the disk tells its content; at
 -- the end nothing.
 abbrev pub StepsTo : Stage → Next → Moment → Moment → Type 0
 StepsTo (Mark level slot) next old new =
@@ -94,11 +94,11 @@ StepsTo Sweep (Release source entry) old new =
     × IsDurable new.disk × Known old.disk.content (λ _. new.known ≡ old.known)
 StepsTo Sweep End old new = (new.collection ≡ old.collection) × (new.known ≡ old.known)
 
--- and to the tables, which stay but that a container is written or given back
+-- and to the tables, which stay but that a container is written or some are given back
 abbrev pub TablesAfter : Stage → Next → Moment → Moment → Type 0
 TablesAfter Sweep (Flush source entry) old new =
     (slot : ℕ) × WritesCopies old.tables old.disk.size old.known slot old.collection.sweep.buffer new.tables
-TablesAfter Sweep (Release source entry) old new = HasFreed old.tables (slot_in_turn old.collection.sweep) new.tables
+TablesAfter Sweep (Release source entry) old new = HasFreed old.tables old.collection.sweep.ready.items new.tables
 TablesAfter stage next old new = new.tables ≡ old.tables
 
 -- why it is refused; at the end it is not
@@ -122,24 +122,24 @@ Keeps Sweep (Flush source entry) old new refusal = (new.collection ≡ old.colle
 Keeps Sweep (Release source entry) old new refusal = new.collection ≡ old.collection
 Keeps stage next old new refusal = (new.collection ≡ old.collection) × (new.known ≡ old.known)
 
--- What it does to the disk, however it ends: what counts of it changes only where a container is written, in a closed slot, or given back,
--- and there only the gate of its slot.
+-- What it does to the disk, however it ends: what counts of it changes only where a container is written, in a closed slot, or some are
+-- given back, and there only the gates of their slots.
 abbrev pub Touches : Stage → Next → SweepValue → Tables → Ending → DiskView → DiskView → Type 0
 Touches Sweep (Copy source entry) s t ending old new = (slots : ℕ) → old.size ≡ size_of slots → Changes (slot_at slots) ending old new
 Touches Sweep (Flush source entry) s t ending old new =
     settled.Steps t.slots ending old new × SealsIndexed t (t.held.last_id + 1) s.buffer ending old new
 Touches Sweep (Release source entry) s t ending old new =
-    Acts ending old new × GivesBack t (slot_in_turn s) ending old new × ChangesGateAlone (slot_in_turn s) ending old new
+    Acts ending old new × GivesBack t s.ready.items ending old new × ChangesGatesAlone s.ready.items ending old new
 Touches stage next s t ending old new = Reads ending old new
 
--- Tables that run with the index's map run on; where a container is given back, if the index has no entry in its slot and its map stays,
+-- Tables that run with the index's map run on; where containers are given back, if the index has no entry in their slots and its map stays,
 -- and where one is written, if the index has its places.
 abbrev pub RunsOn : Stage → Next → Moment → Moment → Type 0
 RunsOn Sweep (Flush source entry) old new =
     Known old.disk.content (λ _. KnownMap old.known (λ _. Runs old.disk.size old.known old.tables
     → Runs new.disk.size new.known new.tables))
 RunsOn Sweep (Release source entry) old new =
-    KnownMap old.known (λ index. HasNoEntryIn index (slot_in_turn old.collection.sweep)) → new.known ≡ old.known
+    KnownMap old.known (λ index. HasNoEntryInAny index old.collection.sweep.ready.items) → new.known ≡ old.known
     → Runs old.disk.size old.known old.tables → Runs new.disk.size new.known new.tables
 RunsOn stage next old new = Runs old.disk.size old.known old.tables → Runs new.disk.size new.known new.tables
 

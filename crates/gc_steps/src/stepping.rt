@@ -40,7 +40,7 @@ pub fn step<D: Disk, X: Index>(
         (moment tables.new (X.places index.new (D.view disk.new).content) (D.view disk.new) collection.new) }
     ensures disk { GoesBy collection.old tables.old (ending blames result) (D.view disk.old) (D.view disk.new) }
     ensures under_way { IsUnderWay tables.new.held collection.new }
-    // The index isn't asked where a container is given back.
+    // The index isn't asked where containers are given back.
     ensures index { (source entry : ℕ) → collection.old.stage ≡ SweepStage → collection.old.sweep.next ≡ ReleaseNext source entry
         → index.new ≡ index.old }
     ensures served { X.serves index.new (D.view disk.new).size }

@@ -12,7 +12,7 @@ ghost use Rattle.gc_steps.specs.declared.collection.Stage.TheVariants.{Sweep as 
 use crate::collection::Collection;
 use crate::phase::StepDone;
 use dd_disk::Disk;
-use gc_sweep::{Next, copy_source, flush_copies, release_source};
+use gc_sweep::{Next, copy_source, flush_copies, release_ready};
 use refusals::{Phase, Refusal};
 use segment_index::Index;
 use std::alloc::Global;
@@ -89,7 +89,7 @@ fn flush_next<D: Disk, X: Index>(
     Ok(StepDone::Did(Phase::Flush))
 }
 
-// Gives the first source back that is ready; the index is not asked.
+// Gives all sources back that are ready; the index is not asked.
 fn release_next<D: Disk, X: Index>(
     disk: &mut D,
     tables: &mut Tables,
@@ -109,7 +109,7 @@ fn release_next<D: Disk, X: Index>(
     ensures under_way { IsUnderWay tables.new.held collection.new }
     ensures served { X.serves index.now (D.view disk.new).size }
 {
-    release_source(disk, tables, &mut collection.sweep, source, entry)?;
+    release_ready(disk, tables, &mut collection.sweep, source, entry)?;
     Ok(StepDone::Did(Phase::Release))
 }
 

@@ -1,7 +1,8 @@
 -- What holds of a sweep by the store, as it begins, as the disk changes beside its copies, and as it ends.
-use Rattle.gc_sweep.proofs.Prelude.{◌≡◌, ◌≢◌, ℕ, true, false, List, [], ◌∷◌, get_or, map, Option, refl, sym, ◌∙◌, ap, subst, arith, AllByRecursion, Contains-append_right, PlaceMap, Contents, Segment, has_key, segment_key, HeaderValue, LiveKeys, HasNewest, RepresentsSlots, SlotTable, Next, CopyNext, Flush, Release, End, Sweep, Begins, HoldsSweep, IsCopied, slot_in_turn, IsNext, HasNoEntryIn, HasNext, IsSweeping, entry_in, sources_before}
-use Rattle.std.specs.List.{Contains}
+use Rattle.gc_sweep.proofs.Prelude.{◌≡◌, ◌≢◌, ℕ, suc, true, false, List, [], ◌∷◌, map, nat_eq, Option, refl, sym, ◌∙◌, ap, subst, arith, AllByRecursion, Contains-append_right, PlaceMap, Contents, Segment, has_key, segment_key, HeaderValue, LiveKeys, HasNewest, RepresentsSlots, SlotTable, Next, CopyNext, Flush, Release, End, Sweep, Begins, HoldsSweep, IsCopied, IsNext, HasNoEntryIn, HasNoEntryInAny, HasNext, IsSweeping, entry_in, sources_before}
+use Rattle.std.specs.List.{Contains, IsDistinct}
 use Rattle.std.proofs.lemmas.List.Elements.{Contains-get_or}
+use Rattle.gc_sweep.proofs.Freed.{second_apart}
 use Rattle.gc_sweep.proofs.InSlots.{IsSourceIn, none_in, stands_in}
 use Rattle.gc_sweep.proofs.KeyLists.{each_so, listed}
 
@@ -55,26 +56,32 @@ holds_on_disk index held image now live snapshot s keeps holds = record {
   half = holds.half;
 }
 
--- ---- the first source that is ready
+-- ---- the sources that are ready
 
-some_ready : (xs : List ℕ) → xs ≢ [] → Contains xs (get_or xs 0 0)
-some_ready [] some = absurd (some refl)
-some_ready (x ∷ xs) some = Contains-get_or (x ∷ xs) 0 0 (omega arith)
+-- The sources that are ready are given back next: each stands in its slot, was there as the collection began, and the index has no entry in it.
+pub record AreInTurn (index : PlaceMap) (held : List (Option HeaderValue)) (snapshot : ℕ) (s : Sweep) : Type 0 where
+  pub some : s.ready.items ≢ []
+  pub stand : AllByRecursion (IsSourceIn held snapshot s.sources.items (sources_before s s.next)) s.ready.items
+  pub apart : IsDistinct nat_eq s.ready.items
+  pub none : HasNoEntryInAny index s.ready.items
 
--- A source that came to its end is given back next: it stands in its slot, was there as the collection began, and the index has no entry in it.
-pub record IsInTurn (index : PlaceMap) (held : List (Option HeaderValue)) (snapshot : ℕ) (s : Sweep) : Type 0 where
-  pub stands : IsSourceIn held snapshot s.sources.items (sources_before s s.next) (slot_in_turn s)
-  pub is_ready : Contains s.ready.items (slot_in_turn s)
-  pub none : HasNoEntryIn index (slot_in_turn s)
+-- what is so of each that is ready is so of all of these
+each_ready : (P : ℕ → Type 0) (xs ready : List ℕ) → ((slot : ℕ) → Contains xs slot → Contains ready slot) → ((slot : ℕ) → Contains ready slot → P slot) → AllByRecursion P xs
+each_ready P [] ready among each = tt
+each_ready P (x ∷ xs) ready among each = (
+  each x (among x (Contains-get_or (x ∷ xs) 0 0 (omega arith))),
+  each_ready P xs ready (λ slot there. among slot (suc there.0, omega (arith, there.1), there.2)) each,
+)
 
 pub in_turn : (t : SlotTable) (index : PlaceMap) (held : List (Option HeaderValue)) (image : List ℕ) (live : LiveKeys) (snapshot source entry : ℕ) (s : Sweep)
     → RepresentsSlots held t → IsSweeping t snapshot s
-    → s.next ≡ Release source entry → HoldsSweep index held image live snapshot s → IsInTurn index held snapshot s
+    → s.next ≡ Release source entry → HoldsSweep index held image live snapshot s → AreInTurn index held snapshot s
 in_turn t index held image live snapshot source entry s slots under stage holds =
     let has : HasNext t s (Release source entry) = subst (HasNext t s) stage under.next_is in
-    let there = some_ready s.ready.items has.0 in
     record {
-      stands = stands_in held t snapshot s under slots (slot_in_turn s) (Contains-append_right s.waiting.items s.ready.items (slot_in_turn s) there);
-      is_ready = there;
-      none = holds.ready (slot_in_turn s) there;
+      some = has.0;
+      stand = each_ready (IsSourceIn held snapshot s.sources.items (sources_before s s.next)) s.ready.items s.ready.items (λ slot there. there)
+          (λ slot there. stands_in held t snapshot s under slots slot (Contains-append_right s.waiting.items s.ready.items slot there));
+      apart = second_apart s.waiting.items s.ready.items under.apart;
+      none = each_ready (HasNoEntryIn index) s.ready.items s.ready.items (λ slot there. there) holds.ready;
     }

@@ -1,5 +1,5 @@
 -- The reserve of slots while a sweep is under way, and that what was copied may be written.
-use Rattle.gc_sweep.proofs.Prelude.{◌≡◌, ◌≢◌, ◌⊎◌, inl, inr, ℕ, ◌+◌, ◌<◌, ◌≤◌, true, false, List, count_by, Option, Some, None, refl, sym, ◌∙◌, ap, subst, arith, ◌==◌, nat_le, AllByRecursion, leb_tells, sha256, Place, PlaceMap, Segment, segment_key, HeaderValue, RESERVE, LiveKeys, HasReserve, HoldsNone, AreHeaders, HasKey, IsPartialIndexOf, first_free, free_slots, MaySeal, HasNewest, some_same, first_closed, some_free, zeros_free, RepresentsSlots, SlotTable, Next, CopyNext, Flush, Release, End, Sweep, HoldsSweep, IsCopied, slot_in_turn, HasNoEntryIn, IsSweeping, free_in, taken_from}
+use Rattle.gc_sweep.proofs.Prelude.{◌≡◌, ◌≢◌, ◌⊎◌, inl, inr, ℕ, ◌+◌, ◌<◌, ◌≤◌, true, false, List, [], ◌∷◌, count_by, Option, Some, None, refl, sym, ◌∙◌, ap, subst, arith, ◌==◌, nat_le, AllByRecursion, leb_tells, sha256, Place, PlaceMap, Segment, segment_key, HeaderValue, RESERVE, LiveKeys, HasReserve, HoldsNone, AreHeaders, HasKey, IsPartialIndexOf, first_free, free_slots, MaySeal, HasNewest, some_same, first_closed, some_free, zeros_free, RepresentsSlots, SlotTable, Next, CopyNext, Flush, Release, End, Sweep, HoldsSweep, IsCopied, HasNoEntryIn, HasNoEntryInAny, IsSweeping, free_in, sources_before, taken_from}
 use Rattle.std.specs.Prelude.{slice_get}
 use Rattle.store_model.specs.Collisions.{AreAmong, IsAmong}
 use Rattle.store_model.specs.Reserve.{IsSpare}
@@ -7,8 +7,8 @@ use Rattle.store_model.specs.Slots.{Copy}
 use Rattle.store_model.specs.Standing.{AreNodes, IsOfKind}
 use Rattle.store_model.proofs.FreedFiles.{free_reserve}
 use Rattle.store_model.proofs.HeldSlots.{IsAmongThese, IsNodeEntry, among_so, newest_so, nodes_so}
-use Rattle.gc_sweep.proofs.Holds.{IsInTurn, in_turn}
-use Rattle.gc_sweep.proofs.InSlots.{copy_of}
+use Rattle.gc_sweep.proofs.Holds.{AreInTurn, in_turn}
+use Rattle.gc_sweep.proofs.InSlots.{IsSourceIn, copy_of}
 use Rattle.gc_sweep.proofs.KeyLists.{each_so}
 
 -- ---- the reserve
@@ -36,25 +36,33 @@ module _ (t : SlotTable) (index : PlaceMap) (held : List (Option HeaderValue)) (
     both_closed : 2 ≤ free_slots held → HasReserve (HasKey index) held
     both_closed enough = free_reserve (HasKey index) held enough
 
-    -- a closed one, and the one that is given back next
-    closed_and_ready : IsInTurn index held snapshot s → HasReserve (HasKey index) held
-    closed_and_ready turn = by_order (leb_tells (first_free held) (slot_in_turn s))
+    -- a closed one, and one that is given back next
+    closed_and : (slot : ℕ) (h : HeaderValue) → slice_get held slot ≡ Some (Some h) → HasNoEntryIn index slot → HasReserve (HasKey index) held
+    closed_and slot h there none = by_order (leb_tells (first_free held) slot)
       where
         closed : slice_get held (first_free held) ≡ Some None
         closed = first_closed held (some_free held one_free)
 
-        differ : first_free held ≢ slot_in_turn s
-        differ same = let wrong : None ≡ Some turn.stands.header = some_same None (Some turn.stands.header) (sym closed ∙ ap (slice_get held) same ∙ turn.stands.there) in cc
+        differ : first_free held ≢ slot
+        differ same = let wrong : None ≡ Some h = some_same None (Some h) (sym closed ∙ ap (slice_get held) same ∙ there) in cc
 
-        spare : IsSpare (HasKey index) held (slot_in_turn s)
-        spare = record { header = turn.stands.header; holds = turn.stands.there; none = none_newest held index (slot_in_turn s) partial turn.none }
+        spare : IsSpare (HasKey index) held slot
+        spare = record { header = h; holds = there; none = none_newest held index slot partial none }
 
-        by_order : ((nat_le (first_free held) (slot_in_turn s) ≡ true) × (first_free held ≤ slot_in_turn s))
-            ⊎ ((nat_le (first_free held) (slot_in_turn s) ≡ false) × (slot_in_turn s < first_free held)) → HasReserve (HasKey index) held
-        by_order (inl least) = record { first = first_free held; second = slot_in_turn s; differ = omega (arith, least.1, differ); first_is = inl closed; second_is = inr spare }
-        by_order (inr more) = record { first = slot_in_turn s; second = first_free held; differ = more.1; first_is = inr spare; second_is = inl closed }
+        by_order : ((nat_le (first_free held) slot ≡ true) × (first_free held ≤ slot))
+            ⊎ ((nat_le (first_free held) slot ≡ false) × (slot < first_free held)) → HasReserve (HasKey index) held
+        by_order (inl least) = record { first = first_free held; second = slot; differ = omega (arith, least.1, differ); first_is = inl closed; second_is = inr spare }
+        by_order (inr more) = record { first = slot; second = first_free held; differ = more.1; first_is = inr spare; second_is = inl closed }
 
-    -- two slots are closed; or one is, and the first that is ready is given back
+    closed_and_ready : AreInTurn index held snapshot s → HasReserve (HasKey index) held
+    closed_and_ready turn = by_ready s.ready.items turn.some turn.stand turn.none
+      where
+        by_ready : (xs : List ℕ) → xs ≢ [] → AllByRecursion (IsSourceIn held snapshot s.sources.items (sources_before s s.next)) xs → HasNoEntryInAny index xs
+            → HasReserve (HasKey index) held
+        by_ready [] some stand none = absurd (some refl)
+        by_ready (x ∷ xs) some stand none = closed_and x stand.0.header stand.0.there none.0
+
+    -- two slots are closed; or one is, and another is given back
     pub has_reserve : HasReserve (HasKey index) held
     has_reserve = by_next s.next refl
       where

@@ -1,5 +1,5 @@
 -- What a step of a sweep leaves of the running store, over a disk that tells its content: its invariant goes on, and no live key is lost.
-use Rattle.gc_sweep.proofs.Prelude.{◌≡◌, ℕ, zero, suc, ◌+◌, List, [], ◌∷◌, map, Option, Some, refl, sym, ◌∙◌, subst, arith, AllByRecursion, Kind, Place, PlaceMap, Contents, Segment, entries_from, segment_key, HeaderValue, Done, DiskView, LiveKeys, IsIn, Stands, Files, with_freed, Store, with_entries, HasReserve, HasKey, IsPartialIndexOf, KeepsCopies, MaySeal, with_sealed, HasNewest, some_same, free_freed, valid_freed, still_has, Represents, Tables, WritesCopies, IsCopied, IsLive, GivesBack, HasFreed, HasNoEntryIn}
+use Rattle.gc_sweep.proofs.Prelude.{◌≡◌, ℕ, zero, suc, ◌+◌, List, [], ◌∷◌, map, Option, Some, refl, sym, ◌∙◌, subst, arith, AllByRecursion, Kind, Place, PlaceMap, Contents, Segment, entries_from, segment_key, HeaderValue, Done, DiskView, LiveKeys, IsIn, Stands, Files, with_all_freed, Store, with_entries, HasReserve, HasKey, IsPartialIndexOf, KeepsCopies, MaySeal, with_sealed, HasNewest, some_same, still_has, Represents, Tables, WritesCopies, IsCopied, IsLive, GivesBack, HasFreed, HasNoEntryInAny}
 use Rattle.std.specs.Prelude.{slice_get}
 use Rattle.std.specs.FinMap as finite
 use Rattle.std.specs.List.{Contains}
@@ -11,11 +11,12 @@ use Rattle.store_model.specs.Collisions.{ByteSet}
 use Rattle.store_model.specs.Image.{IsValidFor}
 use Rattle.store_model.specs.Reserve.{IsReachable}
 use Rattle.store_model.specs.Slots.{HasFree}
-use Rattle.store_model.proofs.FreedFiles.{reserve_by, reserve_freed}
+use Rattle.store_model.proofs.FreedAll.{free_all, reserve_all, valid_all}
+use Rattle.store_model.proofs.FreedFiles.{reserve_by}
 use Rattle.store_model.proofs.Valid.{valid_sealed}
 use Rattle.store_state.specs.Invariant.{CoreInvariant, HoldsPart}
 use Rattle.store_state.proofs.Parts.{parts_kept}
-use Rattle.gc_sweep.proofs.Released.{none_held}
+use Rattle.gc_sweep.proofs.Released.{none_held_any}
 use Rattle.gc_sweep.proofs.InSlots.{live_anywhere}
 
 -- a key that is marked is so at each place
@@ -125,15 +126,14 @@ module _ (index : PlaceMap) (store : Store) (files : Files) (parts : List Part) 
       copies = λ key level bytes is has. copies_on key level bytes (has_live key is) has;
     }
 
-  -- ---- a source was given back
+  -- ---- sources were given back
 
-  module _ (slot : ℕ) (h : HeaderValue) (there : slice_get store.held slot ≡ Some (Some h)) (none : HasNoEntryIn index slot) (freed : HasFreed t slot u) (goes : IsLater old new)
-      (gives : GivesBack t slot Done old new) where
+  module _ (slots : List ℕ) (none : HasNoEntryInAny index slots) (freed : HasFreed t slots u) (goes : IsLater old new) (gives : GivesBack t slots Done old new) where
     abbrev fewer : Store
-    fewer = with_freed slot store
+    fewer = with_all_freed slots store
 
     less : Represents fewer (Some index) u
-    less = freed.represents store (Some index) (λ m is. subst (λ (x : PlaceMap). HasNoEntryIn x slot) (some_same index m is) none) represents
+    less = freed.represents store (Some index) (λ m is. subst (λ (x : PlaceMap). HasNoEntryInAny x slots) (some_same index m is) none) represents
 
     copies_left : KeepsCopies (HasKey index) store image fewer now
     copies_left =
@@ -142,14 +142,14 @@ module _ (index : PlaceMap) (store : Store) (files : Files) (parts : List Part) 
     pub release_leaves : LeavesStore index index store fewer files parts image now among u new live
     release_leaves = record {
       represents = less;
-      valid = subst (λ (n : ℕ). IsValidFor n fewer) (sym goes.size_is) (valid_freed old.size slot store valid);
+      valid = subst (λ (n : ℕ). IsValidFor n fewer) (sym goes.size_is) (valid_all old.size slots store valid);
       stands = (gives.moves among store index files represents core.files_are_indexed none stands).arrives;
       core = record {
         index_is_newest = less.index_is_newest index refl;
         files_are_indexed = core.files_are_indexed;
         pins_are_closed = parts_kept (HasKey index) (HasKey index) store fewer image now copies_left (λ key has. has) parts core.pins_are_closed;
-        reserve_holds = reserve_freed (HasKey index) slot store.held (none_held store index slot core.index_is_newest none) core.reserve_holds;
-        has_free = omega (arith, core.has_free, free_freed slot h store.held there);
+        reserve_holds = reserve_all (HasKey index) slots store (none_held_any store index slots core.index_is_newest none) core.reserve_holds;
+        has_free = omega (arith, core.has_free, free_all slots store);
       };
       stays = λ key is. is;
       was = λ key is. is;

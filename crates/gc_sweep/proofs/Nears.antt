@@ -1,5 +1,5 @@
 -- Each step of a sweep leaves fewer to come.
-use Rattle.gc_sweep.proofs.Prelude.{◌≡◌, inl, inr, ℕ, ◌+◌, ◌*◌, ◌<◌, ◌≤◌, Bool, true, false, List, [], ◌∷◌, ◌++◌, length, drop, Option, None, Some, refl, ap, sym, subst, ◌∙◌, arith, length-append, eq-eqb, PlaceMap, Contents, HeaderValue, Plan, PlansBy, IsPlan, source_of, Shows, DiskView, LiveKeys, SlotTable, Next, Flush, Release, End, Sweep, CopiesSource, EndsBy, HasEnded, IsFilling, TakesBy, HasFlushed, HasReleased, IsNext, HasNext, IsSweeping}
+use Rattle.gc_sweep.proofs.Prelude.{◌≡◌, inl, inr, ℕ, ◌+◌, ◌*◌, ◌<◌, ◌≤◌, ◌≢◌, Bool, true, false, List, [], ◌∷◌, ◌++◌, length, Option, None, Some, refl, ap, sym, subst, ◌∙◌, arith, length-append, eq-eqb, PlaceMap, Contents, HeaderValue, Plan, PlansBy, IsPlan, source_of, Shows, DiskView, LiveKeys, SlotTable, Next, Flush, Release, End, Sweep, CopiesSource, EndsBy, HasEnded, IsFilling, TakesBy, HasFlushed, HasReleased, IsNext, HasNext, IsSweeping}
 use Rattle.std.proofs.Common.{◌-◌}
 use Rattle.gc_sweep.specs.declared.sweep.Next.TheVariants.{Copy}
 use Rattle.gc_sweep.specs.StepsLeft.{steps_at, steps_left}
@@ -103,37 +103,20 @@ module _ (t : SlotTable) (snapshot source entry : ℕ) (s s' : Sweep) (under : I
       some [] none = absurd (is_next.1 (under.fills none))
       some (x ∷ xs) is = omega arith
 
-  -- ---- a source is given back
+  -- ---- what is ready is given back
 
   pub release_nears : (u : SlotTable) → s.next ≡ Release source entry → HasReleased u source entry s s' → steps_left s' < steps_left s
-  release_nears u stage released = by_ready s'.ready.items refl
+  release_nears u stage released =
+      let is_next : HasNext t s (Release source entry) = subst (HasNext t s) stage under.next_is in
+      omega (
+        arith,
+        at (Release source entry) stage,
+        next_few u s.sources.items s.buffer source entry s' s'.next released.next_is,
+        ap (λ (v : _). length v.items) released.sources_are,
+        ap (λ (v : _). length v.items) released.waiting_is,
+        some s.ready.items is_next.0,
+      )
     where
-      is_next : HasNext t s (Release source entry)
-      is_next = subst (HasNext t s) stage under.next_is
-
-      one_less : length s'.ready.items + 1 ≡ length s.ready.items
-      one_less = by_list s.ready.items refl
-        where
-          by_list : (xs : List ℕ) → s.ready.items ≡ xs → length s'.ready.items + 1 ≡ length s.ready.items
-          by_list [] none = absurd (is_next.0 none)
-          by_list (x ∷ xs) is = omega (arith, ap length released.ready_is, ap (λ (ys : List ℕ). length (drop 1 ys)) is, ap length is)
-
-      same : length s'.sources.items ≡ length s.sources.items
-      same = ap (λ (v : _). length v.items) released.sources_are
-
-      waiting : length s'.waiting.items ≡ length s.waiting.items
-      waiting = ap (λ (v : _). length v.items) released.waiting_is
-
-      by_ready : (xs : List ℕ) → s'.ready.items ≡ xs → steps_left s' < steps_left s
-      by_ready [] none =
-          omega (arith, at (Release source entry) stage, next_few u s.sources.items s.buffer source entry s' s'.next (released.goes_on none), same, waiting, one_less)
-      by_ready (x ∷ xs) some =
-          omega (
-            arith,
-            at (Release source entry) stage,
-            ap (steps_at s')
-                (released.next_is (λ none. absurd (omega (arith, ap length none, ap length some)))),
-            same,
-            waiting,
-            one_less,
-          )
+      some : (xs : List ℕ) → xs ≢ [] → 1 ≤ length xs
+      some [] none = absurd (none refl)
+      some (x ∷ xs) is = omega arith

@@ -35,9 +35,9 @@ pub use Rattle.gc_sweep.specs.Beginning.{Begins}
 pub use Rattle.gc_sweep.specs.Copying.{CopiesSource, EndsBy, GoesOn, HasEnded, IsCopyStepRefusal, IsFilling, IsSource, TakesBy}
 pub use Rattle.gc_sweep.specs.Flushing.{HasFlushed, WritesCopies, spared}
 pub use Rattle.gc_sweep.specs.Holding.{AreCopied, GoesOnBeside, HoldsSweep, IsCopied, IsHalfCopied, IsLive, IsOrigin, SourcesStand}
-pub use Rattle.gc_sweep.specs.InTurn.{HasReleased, slot_in_turn}
+pub use Rattle.gc_sweep.specs.InTurn.{HasReleased}
 pub use Rattle.gc_sweep.specs.Next.{IsNext, kind_in}
-pub use Rattle.gc_sweep.specs.Releasing.{GivesBack, HasFreed, HasNoEntryIn}
+pub use Rattle.gc_sweep.specs.Releasing.{ChangesGatesAlone, GivesBack, HasFreed, HasNoEntryIn, HasNoEntryInAny}
 pub use Rattle.gc_sweep.specs.UnderWay.{AreLeft, HasNext, IsSweeping, IsTaken, entry_in, free_in, is_old, sources_before, taken_from}
 pub use Rattle.gc_sweep.specs.declared.sweep.Next.{Next}
 pub use Rattle.gc_sweep.specs.declared.sweep.Next.TheVariants.{Copy as CopyNext, End, Flush, Release}
@@ -52,7 +52,7 @@ pub use Rattle.store_model.proofs.HeldSlots.{found_so}
 pub use Rattle.store_model.proofs.Indexing.{entry_of, put_none, put_some, still_has}
 pub use Rattle.store_model.specs.Collisions.{IsIn, Stands}
 pub use Rattle.store_model.specs.Files.{Files}
-pub use Rattle.store_model.specs.Freeing.{with_freed}
+pub use Rattle.store_model.specs.Freeing.{with_all_freed, with_freed}
 pub use Rattle.store_model.specs.Image.{Store}
 pub use Rattle.store_model.specs.Indexing.{entry_key, with_entries}
 pub use Rattle.store_model.specs.Reserve.{HasReserve, HoldsNone}

@@ -15,5 +15,5 @@ pub use beginning::begin;
 pub use copying::copy_source;
 pub use flushing::flush_copies;
 pub use laws::sealing_keeps_it_sweeping;
-pub use releasing::release_source;
+pub use releasing::release_ready;
 pub use sweep::{Next, Sweep};

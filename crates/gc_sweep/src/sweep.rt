@@ -9,7 +9,7 @@ pub enum Next {
     Copy { source: usize, entry: usize },
     /// It writes what was copied. Then that source goes on from that entry.
     Flush { source: usize, entry: usize },
-    /// It gives back the first source that is ready. Then, once none is, that source goes on from that entry.
+    /// It gives back all sources that are ready. Then that source goes on from that entry.
     Release { source: usize, entry: usize },
     /// It ends.
     End,

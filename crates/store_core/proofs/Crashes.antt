@@ -1,5 +1,5 @@
 -- What a crash leaves at any moment of a step.
-use Rattle.store_core.proofs.Prelude.{stored_with, ◌≡◌, ◌⊎◌, inl, inr, ℕ, false, List, ◌+◌, ◌≤◌, Option, Some, None, Result, Ok, Err, refl, sym, ◌∙◌, subst, arith, ap, suc, OnlyReads, CrashLeaves, SteppedFrom, reads_leave, leaves_weaker, Change, Root, Delete, Put, Answer, StepValue, IsStep, Refusal, HasNoCollisions, ByteSet, IsIn, Stands, Store, last_sequence, with_sealed, with_change, Files, Stored, with_stored, without_stored, last_changed, Stop, Effect, SealsSome, NamesOne, StepsOr, next_id, FileEvent, FileStep, IsAt, IsGivenRight, IsSafeIn, CoreState, IsUnderWayIn, Mark, Filter, Select, SweepStage, CopyNext, Flush, Release, End, Changes, SameBefore, Collection, HoldsAt, HasStage, IsUnderWay, HoldsSweep, slot_in_turn, IsSweeping, IsSafeAt, PlaceMap, Represents, Stage, Touches, TouchesBy, blames, ending, Ending, slot_at, with_freed, RESERVE, HasKey, free_slots, free_reserve, reserve_by, headers_of_right, reached_less, reached_put, HasReserve, IsReachable, CanBeOpened, CoreInvariant, IndexesFiles}
+use Rattle.store_core.proofs.Prelude.{stored_with, ◌≡◌, ◌⊎◌, inl, inr, ℕ, false, List, ◌+◌, ◌≤◌, Option, Some, None, Result, Ok, Err, refl, sym, ◌∙◌, subst, arith, ap, suc, OnlyReads, CrashLeaves, SteppedFrom, reads_leave, leaves_weaker, Change, Root, Delete, Put, Answer, StepValue, IsStep, Refusal, HasNoCollisions, ByteSet, IsIn, Stands, Store, last_sequence, with_sealed, with_change, Files, Stored, with_stored, without_stored, last_changed, Stop, Effect, SealsSome, NamesOne, StepsOr, next_id, FileEvent, FileStep, IsAt, IsGivenRight, IsSafeIn, CoreState, IsUnderWayIn, Mark, Filter, Select, SweepStage, CopyNext, Flush, Release, End, Changes, SameBefore, Collection, HoldsAt, HasStage, IsUnderWay, HoldsSweep, IsSweeping, IsSafeAt, PlaceMap, Represents, Stage, Touches, TouchesBy, blames, ending, Ending, slot_at, RESERVE, HasKey, free_slots, free_reserve, reserve_by, headers_of_right, reached_less, reached_put, HasReserve, IsReachable, CanBeOpened, CoreInvariant, IndexesFiles}
 use Rattle.container_meta.specs.Segments.{Contents}
 use Rattle.actor_parts.specs.StepValue as asked
 use Rattle.refusals.specs.declared.refusal.Refusal.TheVariants as refusals
@@ -20,15 +20,15 @@ use Rattle.store_state.specs.Tables.{closed_from}
 use Rattle.ingest_steps.specs.Offering.{in_free, offer_in}
 use Rattle.store_core.proofs.KeepingFiles.{may_offer, may_seal_each}
 use Rattle.store_core.proofs.ManySealed.{few_placed, last_some, none_placed, some_of_none}
-use Rattle.gc_sweep.specs.Releasing.{GivesBack}
-use Rattle.gc_sweep.specs.Releasing.{HasNoEntryIn}
+use Rattle.gc_sweep.specs.Releasing.{GivesBack, HasNoEntryIn, HasNoEntryInAny, StandsWithout}
 use Rattle.gc_sweep.proofs.Holds.{in_turn}
 use Rattle.gc_sweep.proofs.HoldsRoom.{are_newest, may_flush}
 use Rattle.store_core.proofs.Flushed.{opens_flushed}
 use Rattle.store_model.proofs.FramedTrees.{stands_framed}
 use Rattle.ingest_steps.specs.Sealing.{SealsIndexed}
-use Rattle.gc_sweep.proofs.Released.{none_held}
-use Rattle.store_model.proofs.FreedFiles.{reserve_freed}
+use Rattle.gc_sweep.proofs.Released.{none_held_any}
+use Rattle.store_model.specs.Freeing.{without_some}
+use Rattle.store_model.proofs.FreedAll.{each_marked, last_all, marked, reserve_all, some_are_all}
 
 -- the last number of the store
 pub last_at : (S : List ℕ → Type 0) (s : Store) (stored : Stored) (c : CoreState) → IsAt S s stored c → last_sequence s ≡ stored.last
@@ -191,11 +191,18 @@ module _ (among : ByteSet) (s : Store) (stored : Stored) (old new : CoreState) (
   of_same : (t : Store) (c : List ℕ) → CanBeOpened t stored.files → last_sequence t ≡ last_sequence s → Stands S t stored.files c → OpensAs S stored c
   of_same t c can same is = image_of t c can (same ∙ last_here) is
 
-  -- a container that the index has nothing in may be given back
-  pub opens_freed : (slot : ℕ) → HasNoEntryIn at.index slot → CanBeOpened (with_freed slot s) stored.files
-  opens_freed slot none =
-      opens_by at.index (with_freed slot s) stored.files core.files_are_indexed
-      (reserve_freed (HasKey at.index) slot s.held (none_held s at.index slot core.index_is_newest none) core.reserve_holds)
+  -- containers that the index has nothing in may be given back, whichever of them
+  pub opens_freed : (marks : List Bool) (slots : List ℕ) → HasNoEntryInAny at.index slots → CanBeOpened (without_some marks slots s) stored.files
+  opens_freed marks slots none =
+      let some : List ℕ = marked marks slots in
+      opens_by at.index (without_some marks slots s) stored.files core.files_are_indexed
+      (subst (λ (t : Store). HasReserve (HasKey at.index) t.held) (sym (some_are_all marks slots s))
+      (reserve_all (HasKey at.index) some s
+      (none_held_any s at.index some core.index_is_newest (each_marked (HasNoEntryIn at.index) marks slots none)) core.reserve_holds))
+
+  -- nor do they change the last number
+  last_freed : (marks : List Bool) (slots : List ℕ) → last_sequence (without_some marks slots s) ≡ last_sequence s
+  last_freed marks slots = ap last_sequence (some_are_all marks slots s) ∙ last_all (marked marks slots) s
 
   -- an index that was changed leaves it the same store
   pub change_leaves : (e : Ending) → Changes (slot_at s.slots) e old.disk new.disk → CrashLeaves (Stands S s stored.files) old.disk new.disk
@@ -211,18 +218,18 @@ module _ (among : ByteSet) (s : Store) (stored : Stored) (old new : CoreState) (
   by_changes answer e changes =
       leaves_weaker (Stands S s stored.files) (Either S asked.GcStep answer bytes stored) old.disk new.disk (λ c is. inl (of_same s c opens refl is)) (change_leaves e changes)
 
-  pub release_leaves : (e : Ending) (slot : ℕ) → HasNoEntryIn at.index slot → GivesBack old.tables slot e old.disk new.disk
-      → CrashLeaves (λ c. Stands S s stored.files c ⊎ Stands S (with_freed slot s) stored.files c) old.disk new.disk
-  release_leaves e slot none gives =
+  pub release_leaves : (e : Ending) (slots : List ℕ) → HasNoEntryInAny at.index slots → GivesBack old.tables slots e old.disk new.disk
+      → CrashLeaves (StandsWithout S slots s stored.files) old.disk new.disk
+  release_leaves e slots none gives =
       (gives.moves among s at.index stored.files
       (subst (λ (known : Option PlaceMap). Represents s known old.tables) at.index_known at.represents) core.files_are_indexed none at.stands).leaves
 
-  by_release : (answer : Result Answer Refusal) (e : Ending) (slot : ℕ) → HasNoEntryIn at.index slot → GivesBack old.tables slot e old.disk new.disk
+  by_release : (answer : Result Answer Refusal) (e : Ending) (slots : List ℕ) → HasNoEntryInAny at.index slots → GivesBack old.tables slots e old.disk new.disk
       → CrashLeaves (Either S asked.GcStep answer bytes stored) old.disk new.disk
-  by_release answer e slot none gives =
-      leaves_weaker (λ c. Stands S s stored.files c ⊎ Stands S (with_freed slot s) stored.files c) (Either S asked.GcStep answer bytes stored) old.disk new.disk
-      (λ c stands. elim stands [ inl is ↦ inl (of_same s c opens refl is) | inr is ↦ inl (of_same (with_freed slot s) c (opens_freed slot none) refl is) ])
-      (release_leaves e slot none gives)
+  by_release answer e slots none gives =
+      leaves_weaker (StandsWithout S slots s stored.files) (Either S asked.GcStep answer bytes stored) old.disk new.disk
+      (λ c stands. inl (of_same (without_some stands.0 slots s) c (opens_freed stands.0 slots none) (last_freed stands.0 slots) stands.1))
+      (release_leaves e slots none gives)
 
   -- a collection that sweeps
   module _ (c : Collection) (source entry : ℕ) (under : IsSweeping old.tables.held c.snapshot c.sweep)
@@ -265,14 +272,14 @@ module _ (among : ByteSet) (s : Store) (stored : Stored) (old new : CoreState) (
         ])
         (flush_leaves e seals)
 
-    pub none_in_turn : c.sweep.next ≡ Release source entry → HasNoEntryIn at.index (slot_in_turn c.sweep)
+    pub none_in_turn : c.sweep.next ≡ Release source entry → HasNoEntryInAny at.index c.sweep.ready.items
     none_in_turn stage =
         (in_turn old.tables.held at.index s.held at.stands.known.0 c.live c.snapshot source entry c.sweep at.represents.slots_hold under stage holds).none
 
-    -- the source in turn is given back
-    by_turn : (answer : Result Answer Refusal) → c.sweep.next ≡ Release source entry → (e : Ending) → GivesBack old.tables (slot_in_turn c.sweep) e old.disk new.disk
+    -- the sources that are ready are given back
+    by_turn : (answer : Result Answer Refusal) → c.sweep.next ≡ Release source entry → (e : Ending) → GivesBack old.tables c.sweep.ready.items e old.disk new.disk
         → CrashLeaves (Either S asked.GcStep answer bytes stored) old.disk new.disk
-    by_turn answer stage e gives = by_release answer e (slot_in_turn c.sweep) (none_in_turn stage) gives
+    by_turn answer stage e gives = by_release answer e c.sweep.ready.items (none_in_turn stage) gives
 
   by_stage : (answer : Result Answer Refusal) (c : Collection) (stage : Stage) (next : Next) (e : Ending) → IsUnderWay old.tables.held c
       → IsSafeAt stage at.index s old.parts at.stands.known.0 c → c.stage ≡ stage → c.sweep.next ≡ next

@@ -1,5 +1,5 @@
 -- Where a step of a collection leads.
-use Rattle.store_core.proofs.Prelude.{some_same, blames, ACTORS, Answer, ChangesTo, FileEvent, IsAt, IsSafeIn, ByteSet, IsIn, Stands, Collection, HasKey, CoreInvariant, CoreState, IsUnderWayIn, Did, Done, Ending, Reads, ending_of, Filter, Mark, Select, SweepStage, Flush, Release, End, slot_in_turn, [], Err, List, None, Ok, Option, Result, Some, ap, arith, length, refl, subst, sym, ℕ, ◌∙◌, ◌∷◌, ◌≡◌, ◌≤◌, FlushContainer, FreeContainer, StoreChange, GcEffect, GcRow, IsNotMade, TouchesBy, GoesOn, HasEnded, at_moment, HasNewest, DiskView, IsLater, OnlyReads, IsNeeded, IsSafe, IsStoreAfter, step_safe, IsStoreOf, IsUnderWay, IsValidFor, Store, JournalValue, Part, Phase, PlaceMap, Refusal, Represents, Stage, StandsFor, IsStepRefusal, Keeps, Moment, StepsTo, TablesAfter, Touches, answer_at, moment, phase_at, StopsAfter, Stored, Tables, stands_reads}
+use Rattle.store_core.proofs.Prelude.{some_same, blames, ACTORS, Answer, ChangesTo, FileEvent, IsAt, IsSafeIn, ByteSet, IsIn, Stands, Collection, HasKey, CoreInvariant, CoreState, IsUnderWayIn, Did, Done, Ending, Reads, ending_of, Filter, Mark, Select, SweepStage, Flush, Release, End, [], Err, List, None, Ok, Option, Result, Some, ap, arith, length, refl, subst, sym, ℕ, ◌∙◌, ◌∷◌, ◌≡◌, ◌≤◌, FlushContainer, FreeContainer, StoreChange, GcEffect, GcRow, IsNotMade, TouchesBy, GoesOn, HasEnded, at_moment, HasNewest, DiskView, IsLater, OnlyReads, IsNeeded, IsSafe, IsStoreAfter, step_safe, IsStoreOf, IsUnderWay, IsValidFor, Store, JournalValue, Part, Phase, PlaceMap, Refusal, Represents, Stage, StandsFor, IsStepRefusal, Keeps, Moment, StepsTo, TablesAfter, Touches, answer_at, moment, phase_at, StopsAfter, Stored, Tables, stands_reads, AllByRecursion, eqb-false, map, false, other_there, with_freed}
 use Rattle.refusals.specs.declared.refusal.Refusal.TheVariants as refusals
 use Rattle.actor_parts.specs.declared.step.Answer.TheVariants as answers
 use Rattle.actor_parts.specs.StepValue as asked
@@ -8,8 +8,14 @@ use Rattle.gc_sweep.specs.declared.sweep.Next.TheVariants.{Copy}
 use Rattle.gc_sweep.specs.declared.sweep.Sweep.{Sweep}
 use Rattle.store_core.specs.Collecting.{NoneRuns}
 use Rattle.store_core.proofs.Leading.{AreChangesBy, Leads}
+use Rattle.std.specs.List.{IsDistinct}
+use Rattle.std.specs.Prelude.{nat_eq}
+use Rattle.store_model.specs.Freeing.{with_all_freed}
+use Rattle.store_model.specs.Steps.{CanFree}
+use Rattle.gc_sweep.proofs.KeyLists.{each_so}
 use Rattle.gc_steps.specs.Stepping.{answer_of}
 use Rattle.gc_steps.proofs.RefusedSafe.{refused_safe}
+use Rattle.gc_steps.proofs.StepSafe.{IsSourceAt}
 
 -- ---- the store
 
@@ -24,7 +30,21 @@ phase_is other next freed copied phase is = cc
 pub phase_of : (c : Collection) (phase : Phase) → answer_of c ≡ Did phase → phase_at c.stage c.sweep.next ≡ phase
 phase_of c phase is = phase_is c.stage c.sweep.next c.sweep.freed c.sweep.copied phase is
 
--- the changes of a step: a container is written, or that of a slot is given back, just where the sweep comes to that
+-- once a slot is closed the containers of others can be given back still
+free_still : (slot : ℕ) (others : List ℕ) (s : Store) → AllByRecursion (λ other. nat_eq slot other ≡ false) others → AllByRecursion (λ other. CanFree other s) others
+    → AllByRecursion (λ other. CanFree other (with_freed slot s)) others
+free_still slot [] s apart can = tt
+free_still slot (other ∷ others) s apart can =
+    ((can.0.0, other_there slot other s.held (eqb-false slot other apart.0) ∙ can.0.1), free_still slot others s apart.1 can.1)
+
+-- so those of slots that differ are given back, one after the other
+pub frees_each : (slots : List ℕ) (s t : Store) → AllByRecursion (λ slot. CanFree slot s) slots → IsDistinct nat_eq slots → t ≡ with_all_freed slots s
+    → ChangesTo (map FreeContainer slots) s t
+unfolding IsDistinct
+frees_each [] s t can apart is = is
+frees_each (slot ∷ slots) s t can apart is = (can.0, frees_each slots (with_freed slot s) t (free_still slot slots s apart.0 can.1) apart.1 is)
+
+-- the changes of a step: a container is written, or those of slots are given back, just where the sweep comes to that
 stage_changes : (stage : Stage) (next : Next) (snapshot : ℕ) (sweep : Sweep) (index : PlaceMap) (s t : Store) (image : List ℕ)
     → IsStoreAfter stage next snapshot sweep index s t image
     → (changes : List StoreChange) × (AreChangesBy asked.GcStep (Ok (answers.Did (phase_at stage next))) changes × ChangesTo changes s t)
@@ -37,7 +57,9 @@ stage_changes SweepStage (Flush source entry) snapshot sweep index s t image flu
   ((flushes.id, sweep.buffer.kind, sweep.buffer.segments, refl), (flushes.can, flushes.now_is)),
 )
 stage_changes SweepStage (Release source entry) snapshot sweep index s t image frees =
-    (FreeContainer (slot_in_turn sweep) ∷ [], ((slot_in_turn sweep, refl), ((frees.header, frees.there), frees.now_is)))
+    let slots : List ℕ = sweep.ready.items in
+    let can = each_so (IsSourceAt s.held sweep.sources.items) (λ slot. CanFree slot s) slots (λ slot is. (is.header, is.there)) frees.stand in
+    (map FreeContainer slots, ((slots, refl), frees_each slots s t can frees.apart frees.now_is))
 stage_changes SweepStage End snapshot sweep index s t image same = ([], (refl, same))
 
 did_changes : (c : Collection) (phase : Phase) (index : PlaceMap) (s t : Store) (image : List ℕ) → answer_of c ≡ Did phase

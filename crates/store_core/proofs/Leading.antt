@@ -2,15 +2,15 @@
 use Rattle.actor_parts.specs.StepValue as asked
 use Rattle.actor_parts.specs.declared.step.Answer.TheVariants as answers
 use Rattle.refusals.specs.declared.refusal.Phase.TheVariants as phases
-use Rattle.store_core.proofs.Prelude.{[], Ok, Result, Answer, Segment, Kind, Refusal, changes_by, FlushContainer, FreeContainer, ◌∷◌, FileEvent, IsNoGcStep, CoreState, HasKey, HasNewest, IndexesAll, IsNeeded, List, Some, ℕ, ◌≡◌, Part, PlaceMap, StepValue, Store, StoreChange, Stored}
+use Rattle.store_core.proofs.Prelude.{[], Ok, Result, Answer, Segment, Kind, Refusal, changes_by, FlushContainer, FreeContainer, ◌∷◌, FileEvent, IsNoGcStep, CoreState, HasKey, HasNewest, IndexesAll, IsNeeded, List, Some, map, ℕ, ◌≡◌, Part, PlaceMap, StepValue, Store, StoreChange, Stored}
 use Rattle.store_core.proofs.KeepingFiles.{Next}
 
--- These are the changes of a step: those that its answer tells, and, where a collection writes copies or gives a container back, one of
--- some container or slot.
+-- These are the changes of a step: those that its answer tells, and, where a collection writes copies or gives containers back, those of
+-- some container or slots.
 abbrev pub AreChangesBy : StepValue → Result Answer Refusal → List StoreChange → Type 0
 AreChangesBy asked.GcStep (Ok (answers.Did phases.Flush)) changes =
     (id : ℕ) × (kind : Kind) × (segments : List Segment) × (changes ≡ FlushContainer id kind segments ∷ [])
-AreChangesBy asked.GcStep (Ok (answers.Did phases.Release)) changes = (slot : ℕ) × (changes ≡ FreeContainer slot ∷ [])
+AreChangesBy asked.GcStep (Ok (answers.Did phases.Release)) changes = (slots : List ℕ) × (changes ≡ map FreeContainer slots)
 AreChangesBy step answer changes = changes ≡ changes_by step answer
 
 -- a key that a step may not lose: for a collection each that is needed, and else each

@@ -76,7 +76,6 @@ pub use Rattle.gc_sweep.proofs.KeyLists.{listed}
 pub use Rattle.gc_sweep.proofs.SourceRead.{IsReadOf}
 pub use Rattle.gc_sweep.specs.Copying.{CopiesSource, TakesBy}
 pub use Rattle.gc_sweep.specs.Holding.{HoldsSweep, IsLive}
-pub use Rattle.gc_sweep.specs.InTurn.{slot_in_turn}
 pub use Rattle.gc_sweep.specs.UnderWay.{HasNext, IsSweeping, free_in, is_old, sources_before, taken_from}
 pub use Rattle.gc_sweep.specs.declared.sweep.Next.TheVariants.{Copy as CopyNext, End, Flush, Release}
 pub use Rattle.gc_sweep.specs.declared.sweep.Sweep.{Sweep as SweepValue}

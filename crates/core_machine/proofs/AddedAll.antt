@@ -1,5 +1,5 @@
 -- What containers that are added one after the other make of a machine of files.
-use Rattle.core_machine.proofs.Prelude.{◌≡◌, ℕ, suc, ◌+◌, List, [], ◌∷◌, ◌++◌, Option, Some, None, refl, sym, ◌∙◌, ap, subst, FileMachine, keeping}
+use Rattle.core_machine.proofs.Prelude.{◌≡◌, ℕ, suc, List, [], ◌∷◌, ◌++◌, Option, Some, None, refl, sym, ◌∙◌, ap, subst, FileMachine, keeping}
 use Rattle.std.proofs.lemmas.List.{append-nil, append_assoc}
 use Rattle.container_meta.specs.Segments.{Contents, keys_of}
 use Rattle.store_core.specs.Collecting.{keys_in}

@@ -1,8 +1,7 @@
 -- A container of a later id in a closed slot leaves what a collection that runs has of the table.
-use Rattle.core_machine.proofs.Prelude.{◌≡◌, ◌≢◌, ℕ, ◌+◌, ◌-◌, ◌*◌, ◌<◌, ◌≤◌, Bool, List, [], ◌∷◌, length, Option, Some, None, sym, ◌∙◌, ap, refl, arith, AllByRecursion, get_or-set_other, Root, HeaderValue, StoreChange, as_many, all_first, IsFirstFree, RepresentsSlots, count_of, SlotTable, CoreSweep, IsSweeping, IsTaken, sources_before, old_not_zero, CoreCollection, CoreStage, trees_from, HasStage, IsUnderWay, Phase, IsUnderWayIn, sources_in, Marking, Recording, Sweeping, SameCollection, SameStage, SameSweep, ids_at}
+use Rattle.core_machine.proofs.Prelude.{◌≡◌, ◌≢◌, ℕ, ◌+◌, ◌-◌, ◌*◌, ◌<◌, ◌≤◌, Bool, List, [], ◌∷◌, length, Option, Some, None, sym, ◌∙◌, ap, refl, arith, AllByRecursion, get_or-set_other, Root, HeaderValue, StoreChange, as_many, all_first, all_second, IsFirstFree, RepresentsSlots, count_of, SlotTable, CoreSweep, IsSweeping, IsTaken, sources_before, old_not_zero, CoreCollection, CoreStage, trees_from, HasStage, IsUnderWay, Phase, IsUnderWayIn, sources_in, Marking, Recording, Sweeping, SameCollection, SameStage, SameSweep, ids_at}
 use Rattle.std.proofs.Common.{get_or}
 use Rattle.store_model.specs.Slots.{with_slot}
-use Rattle.store_model.proofs.HeldTrees.{all_second}
 use Rattle.gc_sweep.proofs.Taken.{counts_set, ids_set, slot_closed}
 use Rattle.gc_steps.specs.declared.collection.Stage.TheVariants as core
 use Rattle.gc_steps.proofs.NoNearer.{old_from_same, steps_same}

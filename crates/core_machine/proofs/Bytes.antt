@@ -1,5 +1,6 @@
 -- Lists of bytes of which some were written: what of a store is as it was.
-use Rattle.core_machine.proofs.Prelude.{◌≡◌, ◌≢◌, inl, inr, ◌<◌, ◌≤◌, ◌+◌, ◌-◌, ℕ, Bool, List, length, Option, Some, None, refl, sym, ◌∙◌, subst, arith, lt-ltb, SameOutside, Known, KnownWith, Both, half_cells, slot_at, SLOT_BYTES, SameButSlotOf, SameBefore, Store, Tables, SameButGate, ◌⊎◌}
+use Rattle.core_machine.proofs.Prelude.{◌≡◌, ◌≢◌, inl, inr, ◌<◌, ◌≤◌, ◌+◌, ◌-◌, ℕ, Bool, List, length, Option, Some, None, refl, sym, ◌∙◌, subst, arith, AllByRecursion, lt-ltb, SameOutside, Known, KnownWith, Both, half_cells, slot_at, SLOT_BYTES, SameButSlotOf, SameBefore, SameButGates, Store, Tables, OnlyGates, ◌⊎◌}
+use Rattle.std.specs.Prelude.{Contains}
 use Rattle.std.proofs.lemmas.Bool.{cases_lt}
 use Rattle.base_model.specs.Bytes.{range}
 use Rattle.ingest_steps.specs.SealingAll.{SameButSlotsOf}
@@ -7,9 +8,11 @@ use Rattle.disk_format.specs.Layout.{cell_at}
 use Rattle.disk_format.specs.declared.numbers.TheConstants.{CELL_BYTES, FIRST_HALF}
 use Rattle.ingest_steps.specs.Recording.{SameButRecord as SameButRecordOf, SameButRecordBy}
 use Rattle.ingest_steps.proofs.RecordFrames.{record_alone}
+use Rattle.gc_sweep.proofs.InSlots.{of_each}
 use Rattle.store_core.proofs.FilledSlots.{IsOutOf}
 use Rattle.store_model.specs.Steps.{HasCellsFor}
 use Rattle.store_model.proofs.Journaled.{SameButJournal}
+use Rattle.store_machine.proofs.Released.{all_in}
 use Rattle.core_machine.specs.Bytes.{SameBut, SameJournal}
 
 pub before_same : (place : ℕ) (bytes : List ℕ) → SameBefore place bytes bytes
@@ -46,31 +49,44 @@ module _ (slots : ℕ) (old new : List ℕ) (same : SameBefore (slot_at slots) o
     slots_are = λ slot within other. same.before (slot_at slot) SLOT_BYTES (omega (arith, within));
   }
 
-  pub but_gate_none : (slot : ℕ) → slot < slots → SameButGate slot slots old new
-  but_gate_none slot within = record {
-    rest = but_none (Unit {0}) (λ half cell. ⊥) (λ other. other ≡ slot);
-    slot_is = same.before (slot_at slot + 1) (SLOT_BYTES - 1) (omega (arith, within));
+  pub but_gates_none : (gone : List ℕ) → AllByRecursion (λ slot. slot < slots) gone → OnlyGates gone slots old new
+  but_gates_none gone within = record {
+    rest = but_none (Unit {0}) (λ half cell. ⊥) (λ other. Contains gone other);
+    bodies = λ slot there.
+        same.before (slot_at slot + 1) (SLOT_BYTES - 1)
+        (let below : slot < slots = of_each (λ other. other < slots) gone slot within there in omega (arith, below));
   }
 
--- ---- and then the gate of a slot may be
+-- ---- and then the gates of some slots may be
 
-module _ (slots slot : ℕ) (within : slot < slots) (old mid new : List ℕ) (first : SameBefore (slot_at slots) old mid) (gate : SameOutside (slot_at slot) 1 mid new) where
-  front : (p n : ℕ) → p + n ≤ slot_at slot → range p n new ≡ range p n old
-  front p n before = gate.before p n before ∙ first.before p n (omega (arith, before, within))
+module _ (slots : ℕ) (gone : List ℕ) (within : AllByRecursion (λ slot. slot < slots) gone) (old mid new : List ℕ) (first : SameBefore (slot_at slots) old mid)
+    (gates : SameButGates gone mid new) where
+  kept : (p n : ℕ) → p + n ≤ slot_at slots → ((slot : ℕ) → Contains gone slot → (p + n ≤ slot_at slot) ⊎ (slot_at slot < p)) → range p n new ≡ range p n old
+  kept p n before none = gates.same p n (all_in (λ slot. (p + n ≤ slot_at slot) ⊎ (slot_at slot < p)) gone none) ∙ first.before p n before
 
-  back : (p n : ℕ) → slot_at slot + 1 ≤ p → p + n ≤ slot_at slots → range p n new ≡ range p n old
-  back p n after before = gate.after p n after ∙ first.before p n before
+  -- all before the slots
+  front : (p n : ℕ) → p + n ≤ slot_at 0 → range p n new ≡ range p n old
+  front p n before = kept p n (omega (arith, before)) (λ slot there. inl (omega (arith, before)))
 
-  other_slot : (other : ℕ) → other < slots → other ≢ slot → range (slot_at other) SLOT_BYTES new ≡ range (slot_at other) SLOT_BYTES old
-  other_slot other below differs = elim (cases_lt other slot) [
-    | inl less ↦ front (slot_at other) SLOT_BYTES (omega (arith, less))
-    | inr more ↦ back (slot_at other) SLOT_BYTES (omega (arith, more, differs)) (omega (arith, below))
-  ]
+  other_slot : (other : ℕ) → other < slots → ¬ (Contains gone other) → range (slot_at other) SLOT_BYTES new ≡ range (slot_at other) SLOT_BYTES old
+  other_slot other below differs = kept (slot_at other) SLOT_BYTES (omega (arith, below)) outside
+    where
+      outside : (slot : ℕ) → Contains gone slot → (slot_at other + SLOT_BYTES ≤ slot_at slot) ⊎ (slot_at slot < slot_at other)
+      outside slot there = elim (cases_lt other slot) [
+        | inl less ↦ inl (omega (arith, less))
+        | inr more ↦ inr (let apart : slot ≢ other = λ same. differs (subst (Contains gone) same there) in omega (arith, more, apart))
+      ]
 
-  pub but_gate : SameButGate slot slots old new
-  but_gate = record {
+  body : (slot : ℕ) → slot < slots → range (slot_at slot + 1) (SLOT_BYTES - 1) new ≡ range (slot_at slot + 1) (SLOT_BYTES - 1) old
+  body slot below = kept (slot_at slot + 1) (SLOT_BYTES - 1) (omega (arith, below)) outside
+    where
+      outside : (other : ℕ) → Contains gone other → (slot_at slot + 1 + (SLOT_BYTES - 1) ≤ slot_at other) ⊎ (slot_at other < slot_at slot + 1)
+      outside other there = elim (cases_lt slot other) [ inl less ↦ inl (omega (arith, less)) | inr more ↦ inr (omega (arith, more)) ]
+
+  pub but_gates : OnlyGates gone slots old new
+  but_gates = record {
     rest = record {
-      size_is = gate.size ∙ first.size;
+      size_is = gates.size ∙ first.size;
       format = front 0 CELL_BYTES (omega arith);
       journal = λ all. record {
         head = front 0 FIRST_HALF (omega arith);
@@ -78,7 +94,7 @@ module _ (slots slot : ℕ) (within : slot < slots) (old mid new : List ℕ) (fi
       };
       slots_are = λ other below differs. other_slot other below differs;
     };
-    slot_is = back (slot_at slot + 1) (SLOT_BYTES - 1) (omega arith) (omega (arith, within));
+    bodies = λ slot there. body slot (of_each (λ other. other < slots) gone slot within there);
   }
 
 -- ---- a slot may be

@@ -1,7 +1,7 @@
--- What a step of a collection leaves of the bytes: all before the end of the slots, but for the slot that it writes copies to, or the gate of a
--- container that it gives back.
-use Rattle.core_machine.proofs.Prelude.{◌==◌, ◌≡◌, inl, inr, ◌+◌, ◌<◌, ◌≤◌, ℕ, suc, List, [], Some, None, refl, ◌∙◌, ap, subst, arith, AllByRecursion, SameOutside, KnownWith, segment_key, Broken, Ending, ending_of, OnlyReads, slot_at, RESERVE, Mark, Filter, Select, IsSafe, IsStepRefusal, Touches, phase_at, HoldsAt, held_at, at_stage, Next, Flush, Release, End, HoldsSweep, SourcesStand, slot_in_turn, IsSweeping, Refusal, SameBefore, ByteSet, IsIn, Encodes, Store, free_slots, with_sealed, HasNewest, blames, IsSettled, Represents, at_moment, IsAt, IsSafeIn, CoreState, IsUnderWayIn, FileMachine, Makes, Stopped, AllHeld, SameButGate, SameButSlot, SameStore, stored_in, changes_of}
-use Rattle.std.specs.Prelude.{count_by, map}
+-- What a step of a collection leaves of the bytes: all before the end of the slots, but for the slot that it writes copies to, or the gates of the
+-- containers that it gives back.
+use Rattle.core_machine.proofs.Prelude.{◌==◌, ◌≡◌, inl, inr, ◌+◌, ◌<◌, ◌≤◌, ℕ, suc, List, [], ◌∷◌, Some, None, refl, ◌∙◌, ap, subst, arith, AllByRecursion, KnownWith, segment_key, Broken, Ending, ending_of, OnlyReads, slot_at, RESERVE, Mark, Filter, Select, IsSafe, IsStepRefusal, Touches, phase_at, HoldsAt, held_at, at_stage, Next, Flush, Release, End, HoldsSweep, SourcesStand, IsSweeping, sources_before, Refusal, SameBefore, ByteSet, IsIn, Encodes, SameButGates, Store, free_slots, with_sealed, HasNewest, blames, IsSettled, Represents, at_moment, IsAt, IsSafeIn, CoreState, IsUnderWayIn, FileMachine, Makes, Stopped, AllHeld, OnlyGates, SameButSlot, SameStore, stored_in, changes_of, stores_of}
+use Rattle.std.specs.Prelude.{count_by}
 use Rattle.container_meta.specs.Segments.{Contents}
 use Rattle.dd_disk.specs.Ending.{Done}
 use Rattle.gc_steps.specs.declared.collection.Collection.{Collection}
@@ -10,15 +10,16 @@ use Rattle.gc_steps.specs.declared.collection.Stage.TheVariants.{Sweep}
 use Rattle.gc_steps.proofs.Sparing.{held_within}
 use Rattle.gc_sweep.specs.declared.sweep.Next.TheVariants.{Copy}
 use Rattle.gc_sweep.specs.UnderWay.{free_in, taken_from}
-use Rattle.gc_sweep.proofs.Holds.{in_turn}
+use Rattle.gc_sweep.proofs.Holds.{AreInTurn, in_turn}
 use Rattle.gc_sweep.proofs.HoldsRoom.{are_newest, may_flush}
+use Rattle.gc_sweep.proofs.InSlots.{IsSourceIn}
 use Rattle.ingest_steps.specs.Sealing.{FitBeside}
 use Rattle.store_model.specs.Collisions.{Stands}
-use Rattle.store_model.specs.Steps.{MaySeal, changed}
+use Rattle.store_model.specs.Steps.{MaySeal}
 use Rattle.store_model.proofs.Free.{zeros_free}
 use Rattle.store_core.proofs.AtStore.{shows_here}
 use Rattle.core_machine.specs.Bytes.{BreaksOff, Sweeps}
-use Rattle.core_machine.proofs.Bytes.{before_same, but_gate, but_gate_none, known_weaker}
+use Rattle.core_machine.proofs.Bytes.{before_same, but_gates, but_gates_none, known_weaker}
 use Rattle.core_machine.proofs.BytesAt.{IsRest, all_held, counts_told, rest_told, right_here, same_store, slot_told, stands_here}
 
 -- A core is at the store of a machine, whose collection goes on.
@@ -45,7 +46,7 @@ module _ (among : ByteSet) (m : FileMachine) (old new : CoreState) (at : IsAt (I
   read_counts : OnlyReads old.disk new.disk → Counts
   read_counts reads = (image, reads.content_is ∙ here, before_same (slot_at m.store.slots) image)
 
-  -- it neither writes copies nor gives a container back
+  -- it neither writes copies nor gives containers back
   abbrev GivesNothing : Stage → Next → Type 0
   GivesNothing Sweep (Flush source entry) = ⊥
   GivesNothing Sweep (Release source entry) = ⊥
@@ -117,37 +118,43 @@ module _ (among : ByteSet) (m : FileMachine) (old new : CoreState) (at : IsAt (I
         let holds = touches.1.holds among m.store (Some at.index) at.index m.now.names image now represents here told stands may fit in
         all_held S written m.now.names now (moved.arrives.each now (new.disk.as_read now told)) filled holds.1
 
-    -- ---- a container that is given back
+    -- ---- containers that are given back
 
     abbrev Freeing : Ending → Type 0
     Freeing e = Touches Sweep (Release source entry) c.sweep old.tables e old.disk new.disk
 
-    abbrev slot : ℕ
-    slot = slot_in_turn c.sweep
+    abbrev gone : List ℕ
+    gone = c.sweep.ready.items
 
     module _ (next_is : c.sweep.next ≡ Release source entry) where
-      within : slot < m.store.slots
-      within =
-          let turn = in_turn old.tables.held at.index m.store.held image c.live c.snapshot source entry c.sweep represents.slots_hold sweeping next_is was_held in
-          omega (arith, held_within m.store.held slot turn.stands.header turn.stands.there, at.valid.many)
+      turn : AreInTurn at.index m.store.held c.snapshot c.sweep
+      turn = in_turn old.tables.held at.index m.store.held image c.live c.snapshot source entry c.sweep represents.slots_hold sweeping next_is was_held
 
-      freed_gate : Freeing Done → Told (SameButGate slot m.store.slots image)
-      freed_gate touches =
-          known_weaker new.disk.content (SameOutside (slot_at slot) 1 image) (SameButGate slot m.store.slots image)
-          (λ now gate. but_gate m.store.slots slot within image image now (before_same (slot_at m.store.slots) image) gate)
+      within : AllByRecursion (λ slot. slot < m.store.slots) gone
+      within = each gone turn.stand
+        where
+          each : (slots : List ℕ) → AllByRecursion (IsSourceIn m.store.held c.snapshot c.sweep.sources.items (sources_before c.sweep c.sweep.next)) slots
+              → AllByRecursion (λ slot. slot < m.store.slots) slots
+          each [] stand = tt
+          each (slot ∷ slots) stand = (omega (arith, held_within m.store.held slot stand.0.header stand.0.there, at.valid.many), each slots stand.1)
+
+      freed_gates : Freeing Done → Told (OnlyGates gone m.store.slots image)
+      freed_gates touches =
+          known_weaker new.disk.content (SameButGates gone image) (OnlyGates gone m.store.slots image)
+          (λ now gates. but_gates m.store.slots gone within image image now (before_same (slot_at m.store.slots) image) gates)
           (touches.2.content refl image here)
 
       before_by : (d : List ℕ) → old.disk.images d → SameBefore (slot_at m.store.slots) image d
       before_by d left = subst (λ (n : ℕ). SameBefore (slot_at n) image d) at.represents.slots_are (calm image here d left)
 
-      broken_gate : Freeing Broken → Told (SameButGate slot m.store.slots image)
-      broken_gate touches =
+      broken_gates : Freeing Broken → Told (OnlyGates gone m.store.slots image)
+      broken_gates touches =
           let (now, told, so) = touches.0.later.tells image here in (
             now,
             told,
             elim ((touches.2.leaves image here).now now (new.disk.as_read now told)) [
-              | inl was ↦ but_gate_none m.store.slots image now (before_by now was) slot within
-              | inr step ↦ but_gate m.store.slots slot within image step.0 now (before_by step.0 step.1) step.2
+              | inl was ↦ but_gates_none m.store.slots image now (before_by now was) gone within
+              | inr step ↦ but_gates m.store.slots gone within image step.0 now (before_by step.0 step.1) step.2
             ],
           )
 
@@ -168,9 +175,10 @@ module _ (among : ByteSet) (m : FileMachine) (old new : CoreState) (at : IsAt (I
     swept Sweep (Flush source entry) last is next_is touches (can, same) =
         let (now, told, but) = flushed_slot source entry is Done touches in
         (now, told, inr (inl (suc last, (c.sweep.buffer, (same, but, were_held source entry is, are_held source entry is touches now told)))))
-    swept Sweep (Release source entry) last is next_is touches (can, same) =
-        known_weaker new.disk.content (SameButGate (slot_in_turn c.sweep) m.store.slots image) (Sweeps m n image)
-        (λ now gate. inr (inr (slot_in_turn c.sweep, (same, (m.store, (right, gate)))))) (freed_gate source entry is next_is touches)
+    swept Sweep (Release source entry) last is next_is touches makes =
+        let gone : List ℕ = c.sweep.ready.items in
+        known_weaker new.disk.content (OnlyGates gone m.store.slots image) (Sweeps m n image)
+        (λ now gates. inr (inr (gone, (makes, (m.store, (right, gates)))))) (freed_gates source entry is next_is touches)
     swept Sweep End last is next_is touches same = swept_none same (nothing Sweep End Done tt touches)
 
     broke_none : n.state ≡ Stopped None [] → Counts → Told (BreaksOff m n image)
@@ -179,7 +187,7 @@ module _ (among : ByteSet) (m : FileMachine) (old new : CoreState) (at : IsAt (I
         (λ now before. inl (same, same_store S m.store (stored_in m.now) old new at now before)) counts
 
     pub broke : (stage : Stage) (next : Next) (last : ℕ) → c.stage ≡ stage → c.sweep.next ≡ next → Touches stage next c.sweep old.tables Broken old.disk new.disk
-        → n.state ≡ Stopped None (map (λ change. changed change m.store) (changes_of (phase_at stage next) last c.sweep)) → Told (BreaksOff m n image)
+        → n.state ≡ Stopped None (stores_of (phase_at stage next) last c.sweep m.store) → Told (BreaksOff m n image)
     broke (Mark level slot) next last is next_is touches same = broke_none same (nothing (Mark level slot) next Broken tt touches)
     broke (Filter slot) next last is next_is touches same = broke_none same (nothing (Filter slot) next Broken tt touches)
     broke Select next last is next_is touches same = broke_none same (nothing Select next Broken tt touches)
@@ -188,8 +196,8 @@ module _ (among : ByteSet) (m : FileMachine) (old new : CoreState) (at : IsAt (I
         known_weaker new.disk.content (SameButSlot image) (BreaksOff m n image)
         (λ now but. inr (inl (suc last, (c.sweep.buffer, (same, room source entry is next_is, but))))) (flushed_slot source entry is Broken touches)
     broke Sweep (Release source entry) last is next_is touches same =
-        known_weaker new.disk.content (SameButGate (slot_in_turn c.sweep) m.store.slots image) (BreaksOff m n image)
-        (λ now gate. inr (inr (slot_in_turn c.sweep, (same, (m.store, (right, gate)))))) (broken_gate source entry is next_is touches)
+        known_weaker new.disk.content (OnlyGates c.sweep.ready.items m.store.slots image) (BreaksOff m n image)
+        (λ now gates. inr (inr (c.sweep.ready.items, (same, (m.store, (right, gates)))))) (broken_gates source entry is next_is touches)
     broke Sweep End last is next_is touches same = broke_none same (nothing Sweep End Broken tt touches)
 
   -- a refusal that is no write that failed

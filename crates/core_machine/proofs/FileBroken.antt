@@ -1,6 +1,6 @@
 -- A step that stopped a core at the files of a machine: its disk stands for the files of the machine that is stopped then.
-use Rattle.core_machine.proofs.Prelude.{◌≡◌, ◌⊎◌, inl, inr, ◌+◌, ◌≤◌, ℕ, suc, Bool, true, false, List, [], ◌∷◌, Option, Some, None, Result, Err, refl, sym, ◌∙◌, ap, subst, arith, Broken, IsLater, OnlyReads, PlaceMap, Change, Root, Gone, Put, Answer, StepValue, IsStep, Mark, Filter, Select, IsSafeAt, Touches, phase_at, HoldsAt, HasStage, IsUnderWay, Next, Flush, Release, End, HoldsSweep, slot_in_turn, IsSweeping, Refusal, ByteSet, HasNoCollisions, IsIn, Files, with_freed, Store, last_sequence, with_change, with_sealed, CoreInvariant, Stop, TouchesBy, Effect, NamesOne, SealsSome, Steps, StopsAfter, FileEvent, IsGivenRight, IsSafeIn, IsHarmless, MayClash, CoreState, IsUnderWayIn, running_step, last_at, opens_at, never_damaged, step_later, FileMachine, SameState, ByState, LegalBy, Refuses, broken_by, with_name, without_name, Found, RunState, Running, Stopped, stopped, RootMachine, StaysAt, of_files, IsAtFiles, MayStand, StandsFor, stored_in, answered_by, asked_as, NamesStep, changes_of}
-use Rattle.std.proofs.Common.{if◌then◌else◌, map, Contains}
+use Rattle.core_machine.proofs.Prelude.{◌≡◌, ◌⊎◌, inl, inr, ◌+◌, ◌≤◌, ℕ, suc, Bool, true, false, List, [], ◌∷◌, Option, Some, None, Result, Err, refl, sym, ◌∙◌, ap, subst, arith, Broken, IsLater, OnlyReads, PlaceMap, Change, Root, Gone, Put, Answer, StepValue, IsStep, Mark, Filter, Select, IsSafeAt, Touches, phase_at, HoldsAt, HasStage, IsUnderWay, Next, Flush, Release, End, HoldsSweep, IsSweeping, Refusal, ByteSet, HasNoCollisions, IsIn, Files, without_some, Store, last_sequence, with_change, with_sealed, CoreInvariant, Stop, TouchesBy, Effect, NamesOne, SealsSome, Steps, StopsAfter, FileEvent, IsGivenRight, IsSafeIn, IsHarmless, MayClash, CoreState, IsUnderWayIn, running_step, last_at, opens_at, never_damaged, step_later, FileMachine, SameState, ByState, LegalBy, Refuses, broken_by, with_name, without_name, Found, RunState, Running, Stopped, stopped, RootMachine, StaysAt, of_files, IsAtFiles, MayStand, StandsFor, stored_in, answered_by, asked_as, NamesStep, stores_without_some, stores_of}
+use Rattle.std.proofs.Common.{if◌then◌else◌, Contains}
 use Rattle.std.specs.Prelude.{IfErr}
 use Rattle.container_meta.specs.Segments.{Contents}
 use Rattle.actor_parts.specs.StepValue as steps
@@ -15,7 +15,7 @@ use Rattle.refusals.specs.declared.refusal.Refusal.TheVariants as refusals
 use Rattle.store_model.specs.Collisions.{Stands as IsStoreOf}
 use Rattle.store_model.specs.Files.{with_file, without_file}
 use Rattle.store_model.specs.Standing.{CanBeOpened}
-use Rattle.store_model.specs.Steps.{changed, has_cell, with_cell, with_checkpoint, with_other}
+use Rattle.store_model.specs.Steps.{has_cell, with_cell, with_checkpoint, with_other}
 use Rattle.store_model.specs.Trees.{root_of}
 use Rattle.store_model.proofs.Cells.{last_with_cell}
 use Rattle.store_core.specs.Runs.{IsRootOf}
@@ -29,6 +29,8 @@ use Rattle.store_model.specs.Together.{Placed, with_some}
 use Rattle.ingest_steps.specs.Offering.{in_free, offer_in}
 use Rattle.store_core.proofs.ManySealed.{last_some}
 use Rattle.store_machine.specs.Offers.{sealed_in, stores_with_some}
+use Rattle.store_machine.proofs.Released.{fewer_stands}
+use Rattle.store_model.proofs.FreedAll.{last_all, marked, some_are_all}
 use Rattle.core_machine.proofs.PlacedSame.{some_stands}
 use Rattle.core_machine.proofs.FileSteps.{StepsAt, StepsTo}
 
@@ -165,9 +167,9 @@ module _ (among : ByteSet) (m : FileMachine) (old new : CoreState) (at : IsAtFil
 
     -- ---- a step of a collection
 
-    -- the stores of its change
+    -- the stores that may stand where its write failed
     abbrev stores_by : Stage → Next → Collection → List Store
-    stores_by stage next c = map (λ change. changed change m.store) (changes_of (phase_at stage next) old.tables.held.last_id c.sweep)
+    stores_by stage next c = stores_of (phase_at stage next) old.tables.held.last_id c.sweep m.store
 
     module _ (c : Collection) (source entry : ℕ) (sweeping : IsSweeping old.tables.held c.snapshot c.sweep) (began : c.snapshot ≤ old.tables.held.last_id + 1)
         (holds : HoldsSweep index m.store.held given c.live c.snapshot c.sweep) where
@@ -186,15 +188,16 @@ module _ (among : ByteSet) (m : FileMachine) (old new : CoreState) (at : IsAtFil
                 (opens_copied among m.store (stored_in m.now) old new bytes apart at.is_at c source entry sweeping began holds stage image is) refl is)
           ]
 
-      free_stands : c.sweep.next ≡ Release source entry → GivesBack old.tables (slot_in_turn c.sweep) Broken old.disk new.disk → (image : List ℕ) → new.disk.images image
-          → MayStand S (stopped None (with_freed (slot_in_turn c.sweep) m.store ∷ []) m) image
+      -- some of the sources that are ready were given back, whichever
+      free_stands : c.sweep.next ≡ Release source entry → GivesBack old.tables c.sweep.ready.items Broken old.disk new.disk → (image : List ℕ) → new.disk.images image
+          → MayStand S (stopped None (stores_without_some c.sweep.ready.items m.store) m) image
       free_stands stage gives image left =
+          let slots : List ℕ = c.sweep.ready.items in
           let none = none_in_turn among m.store (stored_in m.now) old new bytes apart at.is_at c source entry sweeping began holds stage in
-          elim ((release_leaves among m.store (stored_in m.now) old new bytes apart at.is_at Broken (slot_in_turn c.sweep) none gives).now image left) [
-            | inl was ↦ may_still None (with_freed (slot_in_turn c.sweep) m.store ∷ []) image was
-            | inr is ↦ may_one (with_freed (slot_in_turn c.sweep) m.store) image
-                (opens_freed among m.store (stored_in m.now) old new bytes apart at.is_at (slot_in_turn c.sweep) none) refl is
-          ]
+          let stands = (release_leaves among m.store (stored_in m.now) old new bytes apart at.is_at Broken slots none gives).now image left in
+          may_be None (stores_without_some slots m.store) (without_some stands.0 slots m.store) image (fewer_stands slots m.store stands.0)
+          (opens_freed among m.store (stored_in m.now) old new bytes apart at.is_at stands.0 slots none)
+          (ap last_sequence (some_are_all stands.0 slots m.store) ∙ last_all (marked stands.0 slots) m.store ∙ last_here) stands.1
 
     module _ (c : Collection) (under : IsUnderWay old.tables.held c) where
       gc_stands : (stage : Stage) (next : Next) → IsSafeAt stage index m.store old.parts given c → c.stage ≡ stage → c.sweep.next ≡ next
@@ -255,16 +258,16 @@ module _ (bytes : List ℕ) (m n : FileMachine) (runs : m.state ≡ Running) (ac
   it_writes steps.ReadNext (right, (file, rest, after, is, stays, others)) = no_read rest after stays
   it_writes step refuses = refuses.1
 
--- the stores of a collection's change are those that the core names
+-- the stores that may stand where a collection's write failed are those that the core names
 pub stores_are : (m n : FileMachine) (r t : RootMachine) → Forgets m r → Forgets n t → (last : ℕ) → r.last_id ≡ last → (k : Collection) (stores others : List Store)
     → n.state ≡ Stopped None stores → t.state ≡ Stopped None others
-    → others ≡ map (λ change. changed change r.store) (changes_of (phase_at k.stage k.sweep.next) r.last_id k.sweep)
-    → stores ≡ map (λ change. changed change m.store) (changes_of (phase_at k.stage k.sweep.next) last k.sweep)
+    → others ≡ stores_of (phase_at k.stage k.sweep.next) r.last_id k.sweep r.store
+    → stores ≡ stores_of (phase_at k.stage k.sweep.next) last k.sweep m.store
 stores_are m n r t was is last last_is k stores others n_is t_is so =
     let same : others ≡ stores = subst (SameState (Stopped None stores)) t_is (subst (λ (s : RunState (List ℕ)). SameState s t.state) n_is is.state) in
     sym same ∙ so
-    ∙ ap (λ (store : Store). map (λ change. changed change store) (changes_of (phase_at k.stage k.sweep.next) r.last_id k.sweep)) was.store
-    ∙ ap (λ (id : ℕ). map (λ change. changed change m.store) (changes_of (phase_at k.stage k.sweep.next) id k.sweep)) last_is
+    ∙ ap (stores_of (phase_at k.stage k.sweep.next) r.last_id k.sweep) was.store
+    ∙ ap (λ (id : ℕ). stores_of (phase_at k.stage k.sweep.next) id k.sweep m.store) last_is
 
 module _ {C : Type 0} {state : C → CoreState} {among : ByteSet} {f : FileEvent} {old new : C} {m n : FileMachine} {r t : RootMachine}
     (to : StepsTo C state among f old new m n r t) (stop : Stop) (stops : (state new).stop ≡ Some stop) where

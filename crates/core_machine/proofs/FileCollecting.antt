@@ -1,10 +1,12 @@
 -- A collection that runs in a core which is at the files of a machine: what it records, writes and gives back, by what the files need.
-use Rattle.core_machine.proofs.Prelude.{◌≡◌, ℕ, ◌<◌, true, List, [], ◌∷◌, length, Some, refl, sym, ◌∙◌, ap, subst, arith, AllByRecursion, pin_by, Kind, PlaceMap, Segment, has_key, segment_key, ContainerLiveness, Next, HoldsSweep, SourcesStand, slot_in_turn, IsSweeping, id_at, live_anywhere, old_id, CoreCollection, IsSafe, phase_at, HoldsAt, IsUnderWay, held_at, at_stage, IsSpare, HasKey, length_of_copy, CoreInvariant, IsAt, IsSafeIn, CoreState, IsUnderWayIn, AtStore, data_level, FileMachine, IsCopyOf, IsRecordOf, keys_written, forget_collection, CollectionNeeds, HasCopy, NeededSince, of_files, SameRun, IsAtFiles, stored_in, IsLiveAtStage, LivesJust, TellsForgotten}
+use Rattle.core_machine.proofs.Prelude.{◌≡◌, ℕ, ◌<◌, true, List, [], ◌∷◌, length, Some, refl, sym, ◌∙◌, ap, subst, arith, AllByRecursion, pin_by, Kind, PlaceMap, Segment, has_key, segment_key, ContainerLiveness, Next, HoldsSweep, SourcesStand, IsSweeping, id_at, sources_before, live_anywhere, old_id, CoreCollection, IsSafe, phase_at, HoldsAt, IsUnderWay, held_at, at_stage, IsSpare, HasKey, length_of_copy, CoreInvariant, IsAt, IsSafeIn, CoreState, IsUnderWayIn, AtStore, data_level, FileMachine, IsCopyOf, IsRecordOf, keys_written, forget_collection, CollectionNeeds, HasCopy, NeededSince, of_files, SameRun, IsAtFiles, stored_in, IsLiveAtStage, LivesJust, TellsForgotten}
 use Rattle.std.proofs.Common.{get_or, map, Contains}
 use Rattle.container_meta.specs.declared.kind.Kind.TheVariants as kinds
 use Rattle.gc_sweep.specs.declared.sweep.Next.TheVariants as nexts
 use Rattle.gc_sweep.specs.Holding.{IsCopied}
-use Rattle.gc_sweep.proofs.Holds.{in_turn}
+use Rattle.gc_sweep.specs.Releasing.{HasNoEntryInAny}
+use Rattle.gc_sweep.proofs.Holds.{AreInTurn, in_turn}
+use Rattle.gc_sweep.proofs.InSlots.{IsSourceIn}
 use Rattle.gc_sweep.proofs.KeyLists.{listed, listed_left, listed_one, listed_right}
 use Rattle.gc_steps.specs.declared.collection.Stage.{Stage}
 use Rattle.gc_steps.specs.declared.collection.Stage.TheVariants as core
@@ -167,7 +169,7 @@ module _ (S : List ℕ → Type 0) (m : FileMachine) (c : CoreState) (x : Collec
         by ss (λ key has. among key (listed_right (segment_key k.sweep.buffer.kind s ∷ []) (map (segment_key k.sweep.buffer.kind) ss) key has)) all.1,
       )
 
-  -- ---- a container is given back
+  -- ---- containers are given back
 
   needed_indexed : k.stage ≡ core.Sweep → (key : List ℕ) → IsNeeded of_files m key → HasKey index_in key
   needed_indexed stage =
@@ -176,8 +178,19 @@ module _ (S : List ℕ → Type 0) (m : FileMachine) (c : CoreState) (x : Collec
       takes.indexed index_in is_at.index_known key ((takes.whole m.store image_in is_at.represents content_in).count key there))
       (λ key needed. let live = live_in core.Sweep stage key (subst (λ o. CollectionNeeds of_files o key) r.ran needed) in (live.0, live.1.0))
 
-  pub spare_in : k.stage ≡ core.Sweep → (source entry : ℕ) → k.sweep.next ≡ nexts.Release source entry → IsSpare (IsNeeded of_files m) m.store.held (slot_in_turn k.sweep)
-  spare_in stage source entry next =
-      let turn = in_turn c.tables.held index_in m.store.held image_in k.live k.snapshot source entry k.sweep is_at.represents.slots_hold (sweeping_in stage) next
-      (holds_in stage).1 in
-      ready_is_spare (IsNeeded of_files m) index_in m.store (slot_in_turn k.sweep) turn.stands.header turn.stands.there stands_in.partial (needed_indexed stage) turn.none
+  pub spare_in : k.stage ≡ core.Sweep → (source entry : ℕ) → k.sweep.next ≡ nexts.Release source entry
+      → AllByRecursion (IsSpare (IsNeeded of_files m) m.store.held) k.sweep.ready.items
+  spare_in stage source entry next = each k.sweep.ready.items turn.stand turn.none
+    where
+      turn : AreInTurn index_in m.store.held k.snapshot k.sweep
+      turn =
+          in_turn c.tables.held index_in m.store.held image_in k.live k.snapshot source entry k.sweep is_at.represents.slots_hold (sweeping_in stage) next
+          (holds_in stage).1
+
+      each : (slots : List ℕ) → AllByRecursion (IsSourceIn m.store.held k.snapshot k.sweep.sources.items (sources_before k.sweep k.sweep.next)) slots
+          → HasNoEntryInAny index_in slots → AllByRecursion (IsSpare (IsNeeded of_files m) m.store.held) slots
+      each [] stand none = tt
+      each (slot ∷ slots) stand none = (
+        ready_is_spare (IsNeeded of_files m) index_in m.store slot stand.0.header stand.0.there stands_in.partial (needed_indexed stage) none.0,
+        each slots stand.1 none.1,
+      )

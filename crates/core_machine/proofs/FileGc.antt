@@ -1,5 +1,5 @@
 -- Steps of a collection, made by a core that is at the files of a machine: what the content of the disk adds to them.
-use Rattle.core_machine.proofs.Prelude.{◌≡◌, inl, inr, ◌⊎◌, ℕ, suc, ◌<◌, Bool, true, List, [], ◌∷◌, ◌++◌, drop, Option, Some, None, option_map, Result, Ok, Err, refl, sym, ◌∙◌, ap, subst, arith, AllByRecursion, Answer, StepValue, Kind, PlaceMap, Segment, Root, LAST_ID, ContainerLiveness, Next, CopiesSource, slot_in_turn, CoreCollection, CoreStage, recorded, TablesAfter, moment, phase_at, at_stage, Phase, Refusal, ByteSet, IsIn, Store, IsSpare, FlushContainer, FreeContainer, SlotTable, Tables, GcRow, StartRow, at_moment, Row, Steps, FileEvent, IsAt, IsHarmless, MayClash, CoreState, IsUnderWayIn, running_step, phase_of, some_same, same_some, FileMachine, GoesOver, IsCollecting, IsCopyOf, IsRecordOf, MayBreak, phase_by, sources_in, SameState, asked_of, forget_collection, Answers, ByState, LegalBy, RunState, Running, Stopped, Sweeping, Adds, AddsBy, AddsToAnswer, IsReady, RootMachine, of_files, of_roots, SameCollection, SameRun, SameStage, SameSweep, ids_at, stored_in, HasIndex, TellsForgotten, answered_by, asked_as, ForgetsBy, MovesAs, NamesGc, NamesStep, changes_of, dead_in, WroteOnce}
+use Rattle.core_machine.proofs.Prelude.{◌≡◌, inl, inr, ◌⊎◌, ℕ, suc, ◌<◌, Bool, true, List, [], ◌∷◌, ◌++◌, Option, Some, None, option_map, Result, Ok, Err, refl, sym, ◌∙◌, ap, subst, arith, AllByRecursion, Answer, StepValue, Kind, PlaceMap, Segment, Root, LAST_ID, ContainerLiveness, Next, CopiesSource, CoreCollection, CoreStage, recorded, TablesAfter, moment, phase_at, at_stage, Phase, Refusal, ByteSet, IsIn, Store, IsSpare, FlushContainer, FreeContainer, SlotTable, Tables, GcRow, StartRow, at_moment, Row, Steps, FileEvent, IsAt, IsHarmless, MayClash, CoreState, IsUnderWayIn, running_step, phase_of, some_same, same_some, FileMachine, GoesOver, IsCollecting, IsCopyOf, IsRecordOf, MayBreak, phase_by, sources_in, SameState, asked_of, forget_collection, Answers, ByState, LegalBy, RunState, Running, Stopped, Sweeping, Adds, AddsBy, AddsToAnswer, IsReady, RootMachine, of_files, of_roots, SameCollection, SameRun, SameStage, SameSweep, stored_in, HasIndex, TellsForgotten, answered_by, asked_as, ForgetsBy, MovesAs, NamesGc, NamesStep, changes_of, dead_in, stores_of, WroteOnce}
 use Rattle.std.proofs.Common.{map, IfErr}
 use Rattle.actor_parts.specs.declared.step.Answer.TheVariants as answers
 use Rattle.actor_parts.specs.StepValue as steps
@@ -10,7 +10,6 @@ use Rattle.gc_steps.specs.Stepping.{StepsTo}
 use Rattle.gc_steps.proofs.RecordOf.{record_of}
 use Rattle.refusals.specs.declared.refusal.Phase.TheVariants as phases
 use Rattle.refusals.specs.declared.refusal.Refusal.TheVariants as refusals
-use Rattle.store_model.specs.Steps.{changed}
 use Rattle.store_core.specs.Collecting.{GoesOn}
 use Rattle.store_core.proofs.AtStore.{at_store}
 use Rattle.store_core.proofs.Damage.{answer_harmless}
@@ -34,6 +33,21 @@ use Rattle.gc_sweep.specs.Copying.{copy_step}
 last_same : {X : Type 0} (xs : List X) (a b : X) → xs ++ a ∷ [] ≡ xs ++ b ∷ [] → a ≡ b
 last_same [] a b same = cc
 last_same (x ∷ xs) a b same = last_same xs a b (let is : xs ++ a ∷ [] ≡ xs ++ b ∷ [] = cc in is)
+
+pub rest_same : {X : Type 0} (xs ys zs : List X) → xs ++ ys ≡ xs ++ zs → ys ≡ zs
+rest_same [] ys zs same = same
+rest_same (x ∷ xs) ys zs same = rest_same xs ys zs (let is : xs ++ ys ≡ xs ++ zs = cc in is)
+
+-- slots that are given back, by the changes
+slots_same : (slots others : List ℕ) → map FreeContainer slots ≡ map FreeContainer others → slots ≡ others
+slots_same [] [] same = refl
+slots_same [] (other ∷ others) same = absurd (let wrong : [] ≡ FreeContainer other ∷ map FreeContainer others = same in cc)
+slots_same (slot ∷ slots) [] same = absurd (let wrong : FreeContainer slot ∷ map FreeContainer slots ≡ [] = same in cc)
+slots_same (slot ∷ slots) (other ∷ others) same =
+    let both : FreeContainer slot ∷ map FreeContainer slots ≡ FreeContainer other ∷ map FreeContainer others = same in
+    let one : slot ≡ other = cc in
+    let rest : map FreeContainer slots ≡ map FreeContainer others = cc in
+    ap (λ (s : ℕ). s ∷ slots) one ∙ ap (λ (ss : List ℕ). other ∷ ss) (slots_same slots others rest)
 
 -- ---- the collection of the machine of roots
 
@@ -165,15 +179,16 @@ module _ (C : Type 0) (state : C → CoreState) (among : ByteSet) (f : FileEvent
         (subst (λ (kd : Kind). AllByRecursion (IsCopyOf x m.store kd) k.sweep.buffer.segments) kinds
         (copies_in (IsIn among) m c x k runs at.2 (λ key was. (wrote x k ran goes.ran key was).unfilled)))
 
-    -- a container was given back
-    releases : phase ≡ phases.Release → (slot : ℕ) → y.changes ≡ x.changes ++ FreeContainer slot ∷ [] → IsSpare (IsNeeded of_files m) m.store.held slot
-    releases is slot more =
+    -- containers were given back
+    releases : phase ≡ phases.Release → (slots : List ℕ) → y.changes ≡ x.changes ++ map FreeContainer slots
+        → AllByRecursion (IsSpare (IsNeeded of_files m) m.store.held) slots
+    releases is slots more =
         let at = at_release k.stage k.sweep.next (phase_is ∙ is) in
-        let same : FreeContainer (slot_in_turn k.sweep) ≡ FreeContainer slot =
-        last_same x.changes (FreeContainer (slot_in_turn k.sweep)) (FreeContainer slot)
+        let same : map FreeContainer k.sweep.ready.items ≡ map FreeContainer slots =
+        rest_same x.changes (map FreeContainer k.sweep.ready.items) (map FreeContainer slots)
         (ap (λ (p : Phase). x.changes ++ changes_of p m.last_id k.sweep) (sym is) ∙ sym changes_are ∙ more) in
-        let slots : slot_in_turn k.sweep ≡ slot = cc in
-        subst (IsSpare (IsNeeded of_files m) m.store.held) slots (spare_in (IsIn among) m c x k runs at.2 at.0 at.1 at.3)
+        subst (AllByRecursion (IsSpare (IsNeeded of_files m) m.store.held)) (slots_same k.sweep.ready.items slots same)
+        (spare_in (IsIn among) m c x k runs at.2 at.0 at.1 at.3)
 
     -- a source was copied
     module _ (is : phase ≡ phases.Copy) (before after : Sweep) (next : Phase) (was : x.stage ≡ Sweeping phases.Copy before) (then_is : y.stage ≡ Sweeping next after) where
@@ -262,7 +277,7 @@ module _ (C : Type 0) (state : C → CoreState) (among : ByteSet) (f : FileEvent
   IsWriting phase = ⊥
 
   broke_by : (x : Collection (List ℕ)) (k : CoreCollection) → m.collection ≡ Some x → c.collection ≡ Some k → (phase : Phase) → phase_at k.stage k.sweep.next ≡ phase
-      → IsWriting phase → (stores : List Store) → stores ≡ map (λ change. changed change m.store) (changes_of phase m.last_id k.sweep) → MayBreak of_files m stores
+      → IsWriting phase → (stores : List Store) → stores ≡ stores_of phase m.last_id k.sweep m.store → MayBreak of_files m stores
   broke_by x k ran core_ran phases.Copy is writes stores are =
       let at = at_copy k.stage k.sweep.next is in
       let swept = swept_in x k ran core_ran at.2 in
@@ -293,12 +308,9 @@ module _ (C : Type 0) (state : C → CoreState) (among : ByteSet) (f : FileEvent
         ran = ran;
         s = turn.at.s;
         stage_is = turn.at.stage_is ∙ ap (λ (p : Phase). Sweeping p turn.at.s) turn.phase_was;
-        slot = slot_in_turn k.sweep;
-        header = turn.stands.header;
-        there = turn.stands.there;
-        rest = ids_at c.tables.held (drop 1 k.sweep.ready.items);
-        ready_is = turn.at.same.ready_is ∙ ap (ids_at c.tables.held) turn.ready_was
-            ∙ ap (λ (id : ℕ). id ∷ ids_at c.tables.held (drop 1 k.sweep.ready.items)) (sym turn.id_is);
+        some = turn.some;
+        slots = k.sweep.ready.items;
+        stand = turn.stand;
         spare = λ known. spare_in (IsIn among) m c x k runs at.2 at.0 at.1 at.3;
         stores_are = are;
       }))
@@ -341,10 +353,9 @@ module _ (C : Type 0) (state : C → CoreState) (among : ByteSet) (f : FileEvent
         let x = some_of m.collection y.c (sym s.forgets.collection ∙ y.ran) in
         let phase = phase_at k.stage k.sweep.next in
         let legal = legal_as (Err refusals.DiskWrite) told_is in
-        let are : stores ≡ map (λ change. changed change r.store) (changes_of phase r.last_id k.sweep) = let both = sym stopped ∙ state_is in cc in
+        let are : stores ≡ stores_of phase r.last_id k.sweep r.store = let both = sym stopped ∙ state_is in cc in
         broke_by x.0 k x.1 core_ran phase refl (writing k core_ran y legal.1.0 legal.1.1) stores
-        (are ∙ ap (λ (st : Store). map (λ change. changed change st) (changes_of phase r.last_id k.sweep)) s.forgets.store
-        ∙ ap (λ (n : ℕ). map (λ change. changed change m.store) (changes_of phase n k.sweep)) s.forgets.last_id)
+        (are ∙ ap (stores_of phase r.last_id k.sweep) s.forgets.store ∙ ap (λ (n : ℕ). stores_of phase n k.sweep m.store) s.forgets.last_id)
 
     -- ---- whatever was answered
 

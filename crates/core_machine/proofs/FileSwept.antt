@@ -1,5 +1,5 @@
 -- After a step of a collection that did not stop it a core is at the files of its machine, in the machine's store, on a settled disk.
-use Rattle.core_machine.proofs.Prelude.{slice_get, ◌≡◌, inl, inr, ℕ, suc, ◌≤◌, List, [], ◌∷◌, ◌++◌, Option, Some, None, option_map, Result, Ok, Err, refl, sym, ◌∙◌, ap, subst, arith, Answer, StepValue, PlaceMap, HeaderValue, header_of, Next, id_at, CoreCollection, CoreStage, CoreStepsTo, moment, phase_at, KeepsMarks, DiskView, HoldsAt, GoesWell, held_at, IsStoreAfter, Phase, Refusal, ByteSet, IsIn, Store, first_free, free_slots, ids_of, StoreChange, with_sealed, GcEffect, GcRow, CoreGoesOn, IsNotMade, at_moment, Effect, Row, Steps, ChangesTo, FileEvent, IsAt, IsSafeIn, stored_by, CoreState, IsUnderWayIn, AtStore, running_step, there_now, phase_of, Leads, led_to, same_some, FileMachine, Makes, keys_written, written_more, forget_collection, Answers, ByState, LegalBy, Refuses, Found, RunState, RootMachine, of_files, Root, stored_in, answered_by, asked_as, MovesAs, NamesGc, NamesStep, changes_of, SameRun, IsWritten, WroteOnce}
+use Rattle.core_machine.proofs.Prelude.{slice_get, ◌≡◌, inl, inr, ℕ, suc, ◌≤◌, List, [], ◌++◌, Option, Some, None, option_map, Result, Ok, Err, refl, sym, ◌∙◌, ap, subst, arith, Answer, StepValue, PlaceMap, HeaderValue, header_of, Next, id_at, CoreCollection, CoreStage, CoreStepsTo, moment, phase_at, KeepsMarks, DiskView, HoldsAt, GoesWell, held_at, IsStoreAfter, Phase, Refusal, ByteSet, IsIn, Store, first_free, free_slots, ids_of, StoreChange, with_sealed, GcEffect, GcRow, CoreGoesOn, IsNotMade, at_moment, Effect, Row, Steps, ChangesTo, FileEvent, IsAt, IsSafeIn, stored_by, CoreState, IsUnderWayIn, AtStore, running_step, there_now, phase_of, Leads, led_to, same_some, FileMachine, Makes, keys_written, written_more, forget_collection, Answers, ByState, LegalBy, Refuses, Found, RunState, RootMachine, of_files, Root, stored_in, answered_by, asked_as, MovesAs, NamesGc, NamesStep, changes_of, SameRun, IsWritten, WroteOnce}
 use Rattle.std.proofs.Common.{Contains, get_or}
 use Rattle.actor_parts.specs.declared.step.Answer.TheVariants as answers
 use Rattle.actor_parts.specs.StepValue as steps
@@ -11,17 +11,14 @@ use Rattle.refusals.specs.declared.refusal.Refusal.TheVariants as refusals
 use Rattle.store_core.proofs.Leading.{AreChangesBy}
 use Rattle.store_core.proofs.AtStore.{at_store}
 use Rattle.store_core.proofs.AnySteps.{after, leads}
+use Rattle.store_machine.proofs.Released.{freed_makes}
 use Rattle.store_machine.specs.Asked as asked
 use Rattle.store_machine.specs.Collecting.{GoesOn}
 use Rattle.store_machine.specs.Forgetting.{Forgets}
 use Rattle.store_machine.specs.Machine.{Collection}
-use Rattle.core_machine.proofs.FileGc.{same_run}
+use Rattle.core_machine.proofs.FileGc.{rest_same, same_run}
 use Rattle.core_machine.proofs.FileSteps.{StepsTo}
 use Rattle.core_machine.proofs.FileWritten.{SweepKept, same_sweep_kept, same_written, wrote_still, written_then}
-
-rest_same : {X : Type 0} (xs ys zs : List X) → xs ++ ys ≡ xs ++ zs → ys ≡ zs
-rest_same [] ys zs same = same
-rest_same (x ∷ xs) ys zs same = rest_same xs ys zs (let is : xs ++ ys ≡ xs ++ zs = cc in is)
 
 -- store, names and collection are what they were
 abbrev StaysSo : FileMachine → FileMachine → Type 0
@@ -151,7 +148,7 @@ module _ (C : Type 0) (state : C → CoreState) (among : ByteSet) (f : FileEvent
     by_stage core.Sweep (nexts.Flush source entry) flushes (can, mine) =
         mine ∙ ap (λ (i : ℕ). with_sealed i k.sweep.buffer.kind k.sweep.buffer.segments m.store)
         (same_id (suc m.last_id) flushes.id mine flushes.now_is (omega (arith, can.slot))) ∙ sym flushes.now_is
-    by_stage core.Sweep (nexts.Release source entry) frees (can, mine) = mine ∙ sym frees.now_is
+    by_stage core.Sweep (nexts.Release source entry) frees makes = freed_makes k.sweep.ready.items m.store n.store makes ∙ sym frees.now_is
     by_stage core.Sweep nexts.End same makes = makes ∙ sym same
 
     did_same : (n.store ≡ store_then) × (n.now ≡ m.now)

@@ -1,5 +1,5 @@
 -- What a collection wrote it does not write again: a container of an id from its snapshot on has each of these keys, and it fills none of them once more.
-use Rattle.core_machine.proofs.Prelude.{◌≡◌, inl, inr, ℕ, ◌≤◌, true, List, [], ◌++◌, Option, Some, None, refl, sym, ◌∙◌, ap, subst, arith, Contains-append_cases, Contains-get_or, PlaceMap, has_key, HeaderValue, header_of, Moment, phase_at, HoldsAt, GoesWell, IsStoreAfter, Next, Flush, Release, End, slot_in_turn, Store, IsPartialIndexOf, first_free, StoreChange, listed_of, there_now, keys_written, changes_of, MachineCollection, keeping, none_in, IsWritten, WroteOnce, CoreState, FileMachine}
+use Rattle.core_machine.proofs.Prelude.{◌≡◌, ◌≢◌, inl, inr, ℕ, ◌≤◌, true, List, [], ◌∷◌, ◌++◌, Option, Some, None, refl, sym, ◌∙◌, ap, subst, arith, AllByRecursion, Contains-append_cases, Contains-get_or, PlaceMap, has_key, HeaderValue, header_of, Moment, phase_at, HoldsAt, GoesWell, IsStoreAfter, Next, Flush, Release, End, Store, IsPartialIndexOf, first_free, StoreChange, listed_of, there_now, keys_written, changes_of, MachineCollection, keeping, none_in, IsWritten, WroteOnce, CoreState, FileMachine}
 use Rattle.std.proofs.Common.{append-nil}
 use Rattle.std.specs.Prelude.{Contains, get_or, slice_get}
 use Rattle.std.proofs.lemmas.Grind.{get_or_default_zero}
@@ -12,8 +12,10 @@ use Rattle.gc_sweep.specs.declared.sweep.Next.TheVariants.{Copy}
 use Rattle.gc_sweep.proofs.Holds.{no_key}
 use Rattle.store_core.proofs.CopiesOnce.{HoldsNewer, listed_found, not_old}
 use Rattle.gc_steps.proofs.SealedPins.{stays_there}
+use Rattle.gc_steps.proofs.StepSafe.{IsSourceAt}
 use Rattle.store_model.proofs.Copies.{some_same}
-use Rattle.store_model.proofs.Freed.{other_there}
+use Rattle.store_model.proofs.FreedAll.{others_all}
+use Rattle.store_machine.proofs.Released.{no_keys_written}
 use Rattle.core_machine.proofs.LivesOn.{StandOn}
 use Rattle.gc_sweep.specs.declared.sweep.Sweep.{Sweep}
 
@@ -103,12 +105,18 @@ module _ (index : PlaceMap) (store store_now : Store) (image : List ℕ) (partia
       subst (λ (s : Store). Stands s slot h) (sym flushes.now_is)
       (stays_there (header_of flushes.id b.sweep.buffer.kind b.sweep.buffer.segments) store.held slot h there)
   stands_after SweepStage (Release source entry) is frees slot h new there =
-      let source = subst (Contains b.sweep.sources.items) (sym frees.id_is) (Contains-get_or b.sweep.sources.items frees.number 0 frees.within) in
-      let one : slot_in_turn b.sweep ≡ slot → frees.header ≡ h =
-      λ same. some_same frees.header h (some_same (Some frees.header) (Some h) (sym frees.there ∙ ap (slice_get store.held) same ∙ there)) in
-      subst (λ (s : Store). Stands s slot h) (sym frees.now_is)
-      (other_there (slot_in_turn b.sweep) slot store.held
-      (λ same. sources_old is h.id new (subst (λ (g : HeaderValue). Contains b.sweep.sources.items g.id) (one same) source)) ∙ there)
+      subst (λ (s : Store). Stands s slot h) (sym frees.now_is) (others_all b.sweep.ready.items slot store (each b.sweep.ready.items frees.stand) ∙ there)
+    where
+      -- the sources are other slots
+      other : (gone : ℕ) → IsSourceAt store.held b.sweep.sources.items gone → gone ≢ slot
+      other gone at same =
+          let one : at.header ≡ h = some_same at.header h (some_same (Some at.header) (Some h) (sym at.there ∙ ap (slice_get store.held) same ∙ there)) in
+          let source = subst (Contains b.sweep.sources.items) (sym at.id_is) (Contains-get_or b.sweep.sources.items at.number 0 at.within) in
+          sources_old is h.id new (subst (λ (g : HeaderValue). Contains b.sweep.sources.items g.id) one source)
+
+      each : (gone : List ℕ) → AllByRecursion (IsSourceAt store.held b.sweep.sources.items) gone → AllByRecursion (λ one. one ≢ slot) gone
+      each [] all = tt
+      each (one ∷ gone) all = (other one all.0, each gone all.1)
   stands_after SweepStage (Copy source entry) is same slot h new there = subst (λ (s : Store). Stands s slot h) (sym same) there
   stands_after SweepStage End is same slot h new there = subst (λ (s : Store). Stands s slot h) (sym same) there
   stands_after other next is same slot h new there = subst (λ (s : Store). Stands s slot h) (sym same) there
@@ -164,6 +172,6 @@ module _ (index : PlaceMap) (store store_now : Store) (image : List ℕ) (partia
           }))
           (no_key a.sweep.buffer key (ap (λ (z : Collection). z.sweep.buffer.segments) (sym is) ∙ made.flushed.emptied))
       by SweepStage (Copy source entry) same made now = absurd (omega (arith, now.1))
-      by SweepStage (Release source entry) frees made now = absurd (omega (arith, now.1))
+      by SweepStage (Release source entry) frees made now = absurd (none_in key (subst (λ (ks : List (List ℕ)). Contains ks key) (no_keys_written b.sweep.ready.items) now))
       by SweepStage End same made now = absurd (omega (arith, now.1))
       by other next same made now = absurd (omega (arith, now.1))

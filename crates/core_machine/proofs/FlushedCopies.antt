@@ -11,7 +11,7 @@ use Rattle.gc_steps.specs.Stepping.{Flushes as CoreFlushes}
 use Rattle.store_machine.specs.Machine.{Collection, Sweep}
 use Rattle.core_machine.proofs.Beside.{ids_same}
 use Rattle.core_machine.proofs.KeysForgotten.{put_told}
-use Rattle.core_machine.proofs.SweptOn.{AtSweep, MapMoves, Swept, at_sweep, is_sweeping, next_ready, no_keys, run_on}
+use Rattle.core_machine.proofs.SweptOn.{AtSweep, MapMoves, Swept, at_sweep, is_sweeping, next_ready, no_keys, no_slots, run_on}
 use Rattle.core_machine.proofs.Rows.{M}
 
 module _ (m : M) (c : Collection Root) (source entry : ℕ) (old new : Moment) (represents : Represents m.store None old.tables) (valid : IsValidFor old.disk.size m.store)
@@ -90,11 +90,7 @@ module _ (m : M) (c : Collection Root) (source entry : ℕ) (old new : Moment) (
   swept_on = record s { filled = []; waiting = []; ready = s.waiting }
 
   some_wait : s.waiting ≢ []
-  some_wait none = has.1 (sweeping.fills (no_slots k.waiting.items (sym at.same.waiting_is ∙ none)))
-    where
-      no_slots : (slots : List ℕ) → ids_at t slots ≡ [] → slots ≡ []
-      no_slots [] is = refl
-      no_slots (w ∷ ws) is = absurd (omega (arith, ap length is))
+  some_wait none = has.1 (sweeping.fills (no_slots t k.waiting.items (sym at.same.waiting_is ∙ none)))
 
   is_ready : next_of m.store.held sources swept_on ≡ phases.Release
   is_ready = next_ready m.store.held sources s.source s.waiting [] some_wait

@@ -1,5 +1,5 @@
 -- Which keys are forgotten, by the map of the index: what that is after each step that moves the one or the other.
-use Rattle.core_machine.proofs.Prelude.{◌≡◌, ◌≢◌, ℕ, zero, suc, ◌+◌, ◌<◌, Bool, true, false, cond, not, ◌||◌, List, [], ◌∷◌, ◌++◌, length, Option, Some, None, option_map, refl, sym, ◌∙◌, ap, subst, arith, AllByRecursion, bytes_eq, Contains-append_cases, Contains-append_left, Contains-append_right, bytes_eq-Decides, Kind, Place, PlaceMap, Segment, entries_from, segment_key, HeaderValue, without_keys, Store, HasFree, HasKey, IsIndexOf, newest, without_slot, with_sealed, forgotten_beside, TellsForgotten, ◌↔◌}
+use Rattle.core_machine.proofs.Prelude.{◌≡◌, ◌≢◌, ℕ, zero, suc, ◌+◌, ◌<◌, Bool, true, false, cond, not, ◌||◌, List, [], ◌∷◌, ◌++◌, length, Option, Some, None, option_map, refl, sym, ◌∙◌, ap, subst, arith, AllByRecursion, bytes_eq, Contains-append_cases, Contains-append_left, Contains-append_right, bytes_eq-Decides, Kind, Place, PlaceMap, Segment, entries_from, segment_key, HeaderValue, without_keys, with_all_freed, with_freed, Store, HasFree, HasKey, IsIndexOf, newest, without_slot, with_sealed, forgotten_beside, TellsForgotten, ◌↔◌}
 use Rattle.std.proofs.Common.{Contains, filter, get_or, nat_lt, ⊎_elim}
 use Rattle.std.specs.FinMap as finite
 use Rattle.std.specs.List.{list_any}
@@ -189,9 +189,15 @@ put_or_not kind segments key places after has same = by (list_any (bytes_eq key)
         (λ none. is ∙ (same apart).0 none, λ none. (same apart).1 (sym is ∙ none))
 
 -- a container was given back, and the index is the same
-pub freed_told : (forgotten : List (List ℕ)) (slot : ℕ) (held : List (Option HeaderValue)) (places : PlaceMap) → TellsForgotten forgotten held places
+freed_told : (forgotten : List (List ℕ)) (slot : ℕ) (held : List (Option HeaderValue)) (places : PlaceMap) → TellsForgotten forgotten held places
     → TellsForgotten forgotten (without_slot slot held) places
 freed_told forgotten slot held places told = record {
   lacked = λ key copy is none. let was = held_before slot held key copy is in told.lacked key was.0 was.1 none;
   gone = told.gone;
 }
+
+-- so it is where containers were, one after the other
+pub all_freed_told : (forgotten : List (List ℕ)) (slots : List ℕ) (store : Store) (places : PlaceMap) → TellsForgotten forgotten store.held places
+    → TellsForgotten forgotten (with_all_freed slots store).held places
+all_freed_told forgotten [] store places told = told
+all_freed_told forgotten (slot ∷ slots) store places told = all_freed_told forgotten slots (with_freed slot store) places (freed_told forgotten slot store.held places told)

@@ -1,12 +1,12 @@
 -- What comes next in a sweep: by the table of a core, and by the containers of the machine.
-use Rattle.core_machine.proofs.Prelude.{◌≡◌, ◌≢◌, inl, inr, ℕ, zero, suc, ◌<◌, Bool, true, false, List, [], ◌∷◌, length, Option, Some, None, refl, sym, ◌∙◌, ap, subst, arith, ◌==◌, slice_get, eq-eqb, le-ltb, lt-ltb, ltb-true, Kind, kind_byte, Segment, segment_key, HeaderValue, Phase, without_slot, some_same, SlotTable, RepresentsSlots, Next, is_old, old_id, phase_at, next_by}
+use Rattle.core_machine.proofs.Prelude.{◌≡◌, ◌≢◌, inl, inr, ℕ, zero, suc, ◌<◌, Bool, true, false, List, [], ◌∷◌, length, Option, Some, None, refl, sym, ◌∙◌, ap, subst, arith, ◌==◌, slice_get, eq-eqb, le-ltb, lt-ltb, ltb-true, Kind, kind_byte, Segment, segment_key, HeaderValue, Phase, Store, with_all_freed, some_same, SlotTable, RepresentsSlots, Next, is_old, old_id, phase_at, next_by}
 use Rattle.std.proofs.Common.{nat_lt, get_or, if◌then◌else◌}
 use Rattle.std.proofs.lemmas.Bool.{ne_eqb}
 use Rattle.container_meta.specs.declared.kind.Kind.TheVariants.{Leaf, Tree}
 use Rattle.container_meta.specs.Segments.{Contents, keys_of}
 use Rattle.refusals.specs.declared.refusal.Phase.TheVariants as phases
 use Rattle.store_model.specs.Slots.{DifferentIds}
-use Rattle.store_model.proofs.Freed.{there_before}
+use Rattle.store_model.proofs.FreedFiles.{not_freed}
 use Rattle.gc_sweep.specs.declared.sweep.Next.TheVariants as nexts
 use Rattle.gc_sweep.specs.Next.{IsNext, IsOfKind, IsOfOtherKind, kind_in}
 use Rattle.gc_sweep.proofs.InSlots.{header_at, kind_at, one_slot}
@@ -51,11 +51,11 @@ has_each held t slots slot id is some =
     let at = header_at held t slots slot id is some in
     record { header = at.0; there = at.1.0; id_is = at.1.1; kind_is = kind_at held t slots slot at.0 at.1.0 }
 
--- also by the containers of before one of them was given back
-pub has_before : (held : List (Option HeaderValue)) (freed : ℕ) (t : SlotTable) → RepresentsSlots (without_slot freed held) t → HasEach held t
-has_before held freed t slots slot id is some =
-    let at = has_each (without_slot freed held) t slots slot id is some in
-    record { header = at.header; there = (there_before freed slot at.header held at.there).1; id_is = at.id_is; kind_is = at.kind_is }
+-- also by the containers of before some of them were given back
+pub has_before : (store : Store) (freed : List ℕ) (t : SlotTable) → RepresentsSlots (with_all_freed freed store).held t → HasEach store.held t
+has_before store freed t slots slot id is some =
+    let at = has_each (with_all_freed freed store).held t slots slot id is some in
+    record { header = at.header; there = (not_freed freed store slot at.header at.there).1; id_is = at.id_is; kind_is = at.kind_is }
 
 -- ---- what comes next
 

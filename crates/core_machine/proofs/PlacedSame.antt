@@ -1,5 +1,5 @@
 -- Containers in the closed slots of least number, as the machine has them and as the steps of a core have them; and the stores with some.
-use Rattle.core_machine.proofs.Prelude.{◌≡◌, ◌⊎◌, inl, inr, ℕ, zero, suc, ◌+◌, ◌≤◌, Bool, true, false, List, [], ◌∷◌, ◌++◌, length, Some, refl, sym, ◌∙◌, ap, subst, arith, some_same, Contains-append_left, Contains-append_right}
+use Rattle.core_machine.proofs.Prelude.{◌≡◌, ◌⊎◌, inl, inr, ℕ, zero, suc, ◌≤◌, Bool, true, false, List, [], ◌∷◌, ◌++◌, length, Some, refl, sym, ◌∙◌, ap, subst, arith, some_same, Contains-append_left, Contains-append_right}
 use Rattle.std.proofs.Common.{map, slice_get}
 use Rattle.std.specs.List.{Contains}
 use Rattle.container_meta.specs.Segments.{Contents}
@@ -13,7 +13,8 @@ use Rattle.ingest_steps.specs.SealingAll.{slots_of}
 use Rattle.ingest_steps.proofs.PlacedFree.{fewer_left, first_in, in_free_step}
 use Rattle.store_core.proofs.FilledSlots.{IsOutOf}
 use Rattle.store_core.proofs.ManySealed.{none_placed}
-use Rattle.store_machine.specs.Offers.{AnyByRecursion, marks_of, placed, stores_with_some}
+use Rattle.store_machine.specs.Offers.{AnyByRecursion, some_marks, placed, stores_with_some}
+use Rattle.store_machine.proofs.Released.{contains_map}
 
 -- they are the same, where there are slots for all
 pub placed_same : (last : ℕ) (cs : List Contents) (s : Store) → length cs ≤ free_slots s.held → placed last cs s ≡ in_free (suc last) cs s
@@ -42,15 +43,10 @@ any_got P (x ∷ xs) (suc number) c here has = inr (any_got P xs number c here h
 
 -- ---- some of them
 
-contains_map : {X Y : Type 0} (f : X → Y) (xs : List X) (x : X) → Contains xs x → Contains (map f xs) (f x)
-contains_map f [] x there = absurd (omega (arith, there.1))
-contains_map f (y ∷ ys) x (zero, below, is) = (zero, omega arith, ap f is)
-contains_map f (y ∷ ys) x (suc k, below, is) = let rest = contains_map f ys x (k, omega (arith, below), is) in (suc rest.0, omega (arith, rest.1), rest.2)
-
 -- The marks, whichever, leave the store as it was, or are of one of the stores with some.
 record IsMarked (marks : List Bool) (ps : List Placed) (s : Store) : Type 0 where
   some : List Bool
-  among : Contains (marks_of (length ps)) some
+  among : Contains (some_marks (length ps)) some
   same : with_some some ps s ≡ with_some marks ps s
 
 marked_or_not : (marks : List Bool) (ps : List Placed) (s : Store) → (with_some marks ps s ≡ s) ⊎ IsMarked marks ps s
@@ -61,26 +57,26 @@ marked_or_not (true ∷ marks) (p ∷ ps) s = elim (marked_or_not marks ps (with
   | inr is ↦ inr (record {
     some = true ∷ is.some;
     among = next (true ∷ is.some)
-        (Contains-append_left (map (λ ms. true ∷ ms) (marks_of (length ps))) (map (λ ms. false ∷ ms) (marks_of (length ps))) (true ∷ is.some)
-        (contains_map (λ ms. true ∷ ms) (marks_of (length ps)) is.some is.among));
+        (Contains-append_left (map (λ ms. true ∷ ms) (some_marks (length ps))) (map (λ ms. false ∷ ms) (some_marks (length ps))) (true ∷ is.some)
+        (contains_map (λ ms. true ∷ ms) (some_marks (length ps)) is.some is.among));
     same = is.same;
   })
 ]
   where
-    next : (ms : List Bool) → Contains (map (λ xs. true ∷ xs) (marks_of (length ps)) ++ map (λ xs. false ∷ xs) (marks_of (length ps))) ms → Contains (marks_of (suc (length ps))) ms
+    next : (ms : List Bool) → Contains (map (λ xs. true ∷ xs) (some_marks (length ps)) ++ map (λ xs. false ∷ xs) (some_marks (length ps))) ms → Contains (some_marks (suc (length ps))) ms
     next ms there = (suc there.0, omega (arith, there.1), there.2)
 marked_or_not (false ∷ marks) (p ∷ ps) s = elim (marked_or_not marks ps s) [
   | inl none ↦ inl none
   | inr is ↦ inr (record {
     some = false ∷ is.some;
     among = next (false ∷ is.some)
-        (Contains-append_right (map (λ ms. true ∷ ms) (marks_of (length ps))) (map (λ ms. false ∷ ms) (marks_of (length ps))) (false ∷ is.some)
-        (contains_map (λ ms. false ∷ ms) (marks_of (length ps)) is.some is.among));
+        (Contains-append_right (map (λ ms. true ∷ ms) (some_marks (length ps))) (map (λ ms. false ∷ ms) (some_marks (length ps))) (false ∷ is.some)
+        (contains_map (λ ms. false ∷ ms) (some_marks (length ps)) is.some is.among));
     same = is.same;
   })
 ]
   where
-    next : (ms : List Bool) → Contains (map (λ xs. true ∷ xs) (marks_of (length ps)) ++ map (λ xs. false ∷ xs) (marks_of (length ps))) ms → Contains (marks_of (suc (length ps))) ms
+    next : (ms : List Bool) → Contains (map (λ xs. true ∷ xs) (some_marks (length ps)) ++ map (λ xs. false ∷ xs) (some_marks (length ps))) ms → Contains (some_marks (suc (length ps))) ms
     next ms there = (suc there.0, omega (arith, there.1), there.2)
 
 -- so a store with some is the store, or one of those that the machine has
@@ -92,6 +88,6 @@ some_stands last cs s marks room =
   where
     by : IsMarked marks (placed last cs s) s → Contains (s ∷ stores_with_some last cs s) (with_some marks (placed last cs s) s)
     by is =
-        let there = contains_map (λ ms. with_some ms (placed last cs s) s) (marks_of (length cs)) is.some
-        (subst (λ (n : ℕ). Contains (marks_of n) is.some) (many_placed last cs s) is.among) in
+        let there = contains_map (λ ms. with_some ms (placed last cs s) s) (some_marks (length cs)) is.some
+        (subst (λ (n : ℕ). Contains (some_marks n) is.some) (many_placed last cs s) is.among) in
         subst (Contains (s ∷ stores_with_some last cs s)) is.same (suc there.0, omega (arith, there.1), there.2)

@@ -29,13 +29,13 @@ pub use Rattle.container_meta.specs.declared.place.Place.{Place}
 pub use Rattle.copy_forward.specs.Entries.{without_keys}
 pub use Rattle.copy_forward.specs.Planning.{IsPlan, Planned, Source, TakesOne, planned, source_of}
 pub use Rattle.copy_forward.specs.declared.plan.Plan.{Plan}
-pub use Rattle.core_machine.specs.Bytes.{AllHeld, BytesOf, ChangesBytes, Holds, SameButGate, SameButRecord, SameButSlot, SameStore}
+pub use Rattle.core_machine.specs.Bytes.{AllHeld, BytesOf, ChangesBytes, Holds, OnlyGates, SameButRecord, SameButSlot, SameStore}
 pub use Rattle.core_machine.specs.Collections.{HasCopied, SameCollection, SameRun, SameStage, SameSweep, ids_at}
 pub use Rattle.core_machine.specs.Files.{FitsBy, IsAtFiles, IsFileMachine, IsOfFile, IsOfFound, IsOfPassed, MayStand, ReadsFiles, StandsFor, stored_in}
 pub use Rattle.core_machine.specs.Lives.{IsBelowLive, IsClosedAt, IsLiveAtStage, LivesJust}
 pub use Rattle.core_machine.specs.Openings.{stores_freed, stores_left}
 pub use Rattle.core_machine.specs.Refines.{Follows, FollowsPhase, HasIndex, IsMachine, SameStop, TellsForgotten, answered_by, asked_as, asked_by}
-pub use Rattle.core_machine.specs.Sweeping.{ForgetsBy, MovesAs, NamesGc, NamesStep, changes_of, dead_in}
+pub use Rattle.core_machine.specs.Sweeping.{ForgetsBy, MovesAs, NamesGc, NamesStep, changes_of, dead_in, stores_of}
 pub use Rattle.core_machine.specs.Written.{IsWritten, WroteOnce}
 pub use Rattle.dd_disk.proofs.Later.{leaves_on, leaves_weaker, reads_leave}
 pub use Rattle.dd_disk.proofs.Shows.{shown_content}
@@ -77,7 +77,6 @@ pub use Rattle.gc_sweep.proofs.KeyLists.{keys_append}
 pub use Rattle.gc_sweep.proofs.Taken.{old_not_zero}
 pub use Rattle.gc_sweep.specs.Copying.{CopiesSource, EndsBy, IsFilling, TakesBy}
 pub use Rattle.gc_sweep.specs.Holding.{HoldsSweep, IsLive, SourcesStand}
-pub use Rattle.gc_sweep.specs.InTurn.{slot_in_turn}
 pub use Rattle.gc_sweep.specs.UnderWay.{HasNext, IsSweeping, IsTaken, entry_in, is_old, sources_before}
 pub use Rattle.gc_sweep.specs.declared.sweep.Next.{Next}
 pub use Rattle.gc_sweep.specs.declared.sweep.Next.TheVariants.{End, Flush, Release}
@@ -121,7 +120,7 @@ pub use Rattle.store_machine.proofs.SameNames.{len_changed, order}
 pub use Rattle.store_machine.proofs.Swept.{freed_more, none_in, written_more}
 pub use Rattle.store_machine.specs.Asked.{Asked}
 pub use Rattle.store_machine.specs.ByMap.{FileMachine}
-pub use Rattle.store_machine.specs.Collecting.{DoesNotFit, Gathered, GoesOver, IsCollecting, IsCopyOf, IsRecordOf, Makes, MayBreak, Went, freed_in, ids_before, keys_written, marking, marks_of, next_by, next_of, phase_by, phase_in, sources_in, swept_by}
+pub use Rattle.store_machine.specs.Collecting.{DoesNotFit, Gathered, GoesOver, IsCollecting, IsCopyOf, IsRecordOf, Makes, MayBreak, StandIn, Went, freed_in, ids_before, keys_written, marking, marks_of, next_by, next_of, phase_by, phase_in, sources_in, stores_without_some, swept_by}
 pub use Rattle.store_machine.specs.Forgetting.{SameNow, SameState, asked_of, forget_collection, forget_step}
 pub use Rattle.store_machine.specs.Legal.{Answers, ByState, IsAtRightPart, Legal, LegalBy, Refuses, RefusesClaim, RefusesCommit, RefusesDelete, RefusesGcStep, RefusesOn, RefusesSeal, RefusesUnique, broken_by, with_name, without_name}
 pub use Rattle.store_machine.specs.Machine.{Collection as MachineCollection, Found, Machine, Marking, Reading, Recording, RunState, Running, Stopped, Sweeping, all_idle, keeping, part_in, put_at, stopped}
@@ -133,7 +132,7 @@ pub use Rattle.store_machine.specs.Values.{StaysAt, of_files, of_roots}
 pub use Rattle.store_model.proofs.Copies.{some_same}
 pub use Rattle.store_model.proofs.Counted.{contained, in_set, tree_on}
 pub use Rattle.store_model.proofs.Free.{as_many, first_closed, some_free}
-pub use Rattle.store_model.proofs.HeldTrees.{all_first}
+pub use Rattle.store_model.proofs.HeldTrees.{all_first, all_second}
 pub use Rattle.store_model.proofs.Once.{store_once}
 pub use Rattle.store_model.proofs.Roots.{length_of_copy}
 pub use Rattle.store_model.proofs.SameFiles.{FitsFile, files_fit}
@@ -141,7 +140,7 @@ pub use Rattle.store_model.proofs.Unfolding.{right_file, root_of_tree}
 pub use Rattle.store_model.proofs.Valid.{free_sealed}
 pub use Rattle.store_model.specs.Collisions.{ByteSet, HasNoCollisions, IsIn, IsOf, OpensAs}
 pub use Rattle.store_model.specs.Files.{Files, Stored}
-pub use Rattle.store_model.specs.Freeing.{FreesSome, FreesTo, IsPartlyFreed, with_all_freed, with_freed}
+pub use Rattle.store_model.specs.Freeing.{FreesSome, FreesTo, IsPartlyFreed, SameButGates, with_all_freed, with_freed, without_some}
 pub use Rattle.store_model.specs.Image.{Encodes, IsValidFor, Store, last_sequence, names_of}
 pub use Rattle.store_model.specs.Refusals.{root_key}
 pub use Rattle.store_model.specs.Reserve.{HoldsCounted, IsReachable, IsSpare, key_set, tree_keys}

@@ -124,6 +124,11 @@ next_ready held sources source (id ∷ ids) filled some = refl
 pub no_keys : (c : Contents) → c.segments ≡ [] → keys_of c ≡ []
 no_keys c none = ap (map (segment_key c.kind)) none
 
+-- no ids are those of no slots
+pub no_slots : (t : SlotTable) (slots : List ℕ) → ids_at t slots ≡ [] → slots ≡ []
+no_slots t [] is = refl
+no_slots t (w ∷ ws) is = absurd (omega (arith, ap length is))
+
 -- ids stay where the table has the same ones in their slots
 pub ids_kept : (t now : SlotTable) (slots : List ℕ) → AllByRecursion (λ w. get_or now.ids.items w 0 ≡ get_or t.ids.items w 0) slots
     → ids_at t slots ≡ ids_at now slots

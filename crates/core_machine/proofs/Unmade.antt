@@ -1,6 +1,5 @@
 -- A step of a collection that is refused, as the machine of roots has it.
-use Rattle.core_machine.proofs.Prelude.{◌≡◌, ◌≢◌, ◌⊎◌, inl, inr, ℕ, suc, ◌<◌, List, [], ◌∷◌, drop, Option, Some, None, Err, refl, sym, ◌∙◌, ap, subst, arith, Bool, Entry, PlaceMap, Planned, Source, DiskView, LAST_ID, LiveKeys, Next, CoreSweep, slot_in_turn, CoreCollection, CoreStage, KeepsMarks, IsStepRefusal, phase_at, IsUnderWay, Phase, Refusal, with_freed, Store, with_sealed, SlotTable, at_moment, StopsAfter, CoreState, IsCollecting, MayBreak, IsAtRightPart, Refuses, Running, Stopped, Sweeping, of_roots, SameCollection, SameRun, ids_at, NamesGc, changes_of, HasIndex, IsMachine}
-use Rattle.std.proofs.Common.{map}
+use Rattle.core_machine.proofs.Prelude.{◌≡◌, ◌≢◌, ◌⊎◌, inl, inr, ℕ, suc, ◌<◌, List, [], ◌∷◌, Option, Some, None, Err, refl, sym, ◌∙◌, ap, subst, arith, Bool, Entry, PlaceMap, Planned, Source, DiskView, LAST_ID, LiveKeys, Next, CoreSweep, CoreCollection, CoreStage, KeepsMarks, IsStepRefusal, phase_at, IsUnderWay, Phase, Refusal, Store, with_sealed, SlotTable, at_moment, StopsAfter, CoreState, IsCollecting, MayBreak, IsAtRightPart, Refuses, Running, Stopped, Sweeping, of_roots, SameCollection, SameRun, NamesGc, stores_of, stores_without_some, HasIndex, IsMachine}
 use Rattle.container_meta.specs.Segments.{Contents}
 use Rattle.copy_forward.specs.Copying.{IsCopyRefusal, copy_task}
 use Rattle.copy_forward.specs.Entries.{IsRemoveRefusal, MapStays}
@@ -18,7 +17,6 @@ use Rattle.gc_steps.specs.Scanning.{step_refusal}
 use Rattle.gc_steps.specs.Stepping.{Keeps}
 use Rattle.refusals.specs.declared.refusal.Phase.TheVariants as phases
 use Rattle.refusals.specs.declared.refusal.Refusal.TheVariants as refusals
-use Rattle.store_model.specs.Steps.{changed}
 use Rattle.actor_parts.specs.StepValue as steps
 use Rattle.store_machine.specs.Asked as asked
 use Rattle.core_machine.proofs.FreedSources.{in_turn}
@@ -45,7 +43,7 @@ abbrev IsScanned : Phase → Type 0
 IsScanned phases.Mark = Unit {0}
 IsScanned phase = ⊥
 
--- all but those that give a container back take memory
+-- all but those that give containers back take memory
 abbrev IsTaking : Phase → Type 0
 IsTaking phases.Release = ⊥
 IsTaking phase = Unit {0}
@@ -205,7 +203,7 @@ module _ {followed : Bool} (c : CoreState) (m : M) (at : IsMachine followed m c)
   not_broken phase refusal may = tt
 
   -- a write failed, and it is stopped
-  stops_by : (phase : Phase) → phase_at k.stage k.sweep.next ≡ phase → (stores : List Store) → stores ≡ map (λ change. changed change m.store) (changes_of phase m.last_id k.sweep)
+  stops_by : (phase : Phase) → phase_at k.stage k.sweep.next ≡ phase → (stores : List Store) → stores ≡ stores_of phase m.last_id k.sweep m.store
       → MayBreak of_roots m stores → d.collection ≡ c.collection → StopsAfter steps.GcStep (Err refusals.DiskWrite) c.acknowledged d.stop
       → Left refusals.DiskWrite
   stops_by phase phase_is stores stores_are may collects stop = (
@@ -215,7 +213,7 @@ module _ {followed : Bool} (c : CoreState) (m : M) (at : IsMachine followed m c)
     (
       k,
       ran,
-      ap (Stopped None) (stores_are ∙ ap (λ (p : Phase). map (λ change. changed change m.store) (changes_of p m.last_id k.sweep)) (sym phase_is)),
+      ap (Stopped None) (stores_are ∙ ap (λ (p : Phase). stores_of p m.last_id k.sweep m.store) (sym phase_is)),
     ),
   )
 
@@ -275,7 +273,7 @@ module _ {followed : Bool} (c : CoreState) (m : M) (at : IsMachine followed m c)
       }))
 
   broken_release : k.stage ≡ core.Sweep → (source entry : ℕ) → k.sweep.next ≡ nexts.Release source entry
-      → MayBreak of_roots m (with_freed (slot_in_turn k.sweep) m.store ∷ [])
+      → MayBreak of_roots m (stores_without_some k.sweep.ready.items m.store)
   broken_release is source entry next_is =
       let turn = in_turn m.store.held t m.swept r.c k at.represents.slots_hold under r.same is source entry next_is in
       inr (inr (record {
@@ -283,11 +281,9 @@ module _ {followed : Bool} (c : CoreState) (m : M) (at : IsMachine followed m c)
         ran = r.ran;
         s = turn.at.s;
         stage_is = turn.at.stage_is ∙ ap (λ (p : Phase). Sweeping p turn.at.s) turn.phase_was;
-        slot = slot_in_turn k.sweep;
-        header = turn.stands.header;
-        there = turn.stands.there;
-        rest = ids_at t (drop 1 k.sweep.ready.items);
-        ready_is = turn.at.same.ready_is ∙ ap (ids_at t) turn.ready_was ∙ ap (λ (id : ℕ). id ∷ ids_at t (drop 1 k.sweep.ready.items)) (sym turn.id_is);
+        some = turn.some;
+        slots = k.sweep.ready.items;
+        stand = turn.stand;
         spare = λ known. absurd known;
         stores_are = refl;
       }))
@@ -324,7 +320,7 @@ module _ {followed : Bool} (c : CoreState) (m : M) (at : IsMachine followed m c)
       (broken_flush is source entry next_is) cause kept.0 kept.1 stops
   not_made core.Sweep (nexts.Release source entry) is next_is refusal cause kept stops =
       subst Left (sym cause)
-      (stops_by phases.Release (phase_now core.Sweep (nexts.Release source entry) is next_is) (with_freed (slot_in_turn k.sweep) m.store ∷ []) refl
+      (stops_by phases.Release (phase_now core.Sweep (nexts.Release source entry) is next_is) (stores_without_some k.sweep.ready.items m.store) refl
       (broken_release is source entry next_is)
       (still kept) (subst (λ (x : Refusal). StopsAfter steps.GcStep (Err x) c.acknowledged d.stop) cause stops))
   not_made core.Sweep nexts.End is next_is refusal cause kept stops = absurd cause

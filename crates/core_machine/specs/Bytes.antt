@@ -1,6 +1,6 @@
 -- What a step does to the bytes of a disk that tells its content: what it compared with, and what it may have changed (docs/MODEL.md, 'The
 -- running store').
-use Rattle.std.specs.Prelude.{◌≡◌, ◌⊎◌, ◌+◌, ◌-◌, ◌<◌, ◌≤◌, ℕ, List, [], ◌∷◌, length, slice_get, take, Option, Some, None, Result, Ok, Err}
+use Rattle.std.specs.Prelude.{◌≡◌, ◌⊎◌, ◌+◌, ◌-◌, ◌<◌, ◌≤◌, ℕ, List, [], ◌∷◌, length, map, slice_get, take, Contains, Option, Some, None, Result, Ok, Err}
 use Rattle.std.specs.List.{AllByRecursion}
 use Rattle.actor_parts.specs.Segments.{pin_of}
 use Rattle.base_model.specs.Bytes.{range}
@@ -13,14 +13,15 @@ use Rattle.disk_format.specs.Layout.{cell_at, half_cells, slot_at}
 use Rattle.refusals.specs.declared.refusal.Difference.{Difference}
 use Rattle.refusals.specs.declared.refusal.Refusal.{Refusal}
 use Rattle.refusals.specs.declared.refusal.Refusal.TheVariants.{Clash, DiskWrite, NotCollecting, Stopped as IsStopped}
-use Rattle.store_model.specs.Freeing.{FreesSome, FreesTo, IsPartlyFreed, SameButGates, with_freed}
+use Rattle.store_model.specs.Freeing.{FreesSome, FreesTo, IsPartlyFreed, SameButGates}
 use Rattle.store_model.specs.Image.{Store, Encodes}
 use Rattle.store_model.specs.Slots.{Copy, first_free, free_slots, newest}
-use Rattle.store_model.specs.Steps.{HasCellsFor, with_sealed}
+use Rattle.store_model.specs.Steps.{FreeContainer, HasCellsFor, with_sealed}
 use Rattle.store_model.specs.Trees.{HasNewest, bytes_at}
 use Rattle.store_machine.specs.Asked.{Asked}
 use Rattle.store_machine.specs.Asked as asked
 use Rattle.store_machine.specs.ByMap.{FileMachine}
+use Rattle.store_machine.specs.Collecting.{Makes, stores_without_some}
 use Rattle.store_machine.specs.Done.{Done}
 use Rattle.store_machine.specs.Done as done
 use Rattle.store_machine.specs.Machine.{Found, Stepped, Stopped}
@@ -94,28 +95,29 @@ abbrev pub SameButRecord : List ℕ → List ℕ → Type 0
 SameButRecord old new = OfStore old (λ store. SameBut (HasCellsFor store 1)
     (λ half cell. (half ≡ store.selector.half) × (cell ≡ length store.records)) (λ slot. ⊥) store.slots old new)
 
--- or all but the gate of a slot
-pub record SameButGate (slot slots : ℕ) (old new : List ℕ) : Type 0 where
-  pub rest : SameBut (Unit {0}) (λ half cell. ⊥) (λ other. other ≡ slot) slots old new
-  pub slot_is : range (slot_at slot + 1) (SLOT_BYTES - 1) new ≡ range (slot_at slot + 1) (SLOT_BYTES - 1) old
+-- or all but the gates of these slots
+pub record OnlyGates (gone : List ℕ) (slots : ℕ) (old new : List ℕ) : Type 0 where
+  pub rest : SameBut (Unit {0}) (λ half cell. ⊥) (λ other. Contains gone other) slots old new
+  pub bodies : (slot : ℕ) → Contains gone slot
+      → range (slot_at slot + 1) (SLOT_BYTES - 1) new ≡ range (slot_at slot + 1) (SLOT_BYTES - 1) old
 
 -- ---- a step of a collection
 
--- One that was done changed no store; or it wrote copies of what was held; or it gave a container back, by its gate alone.
+-- One that was done changed no store; or it wrote copies of what was held; or it gave containers back, by their gates alone.
 abbrev pub Sweeps : FileMachine → FileMachine → List ℕ → List ℕ → Type 0
 Sweeps m n old new = ((n.store ≡ m.store) × SameStore old new)
     ⊎ ((id : ℕ) × ((filled : Contents) × ((n.store ≡ with_sealed id filled.kind filled.segments m.store)
     × SameButSlot old new × AllHeld old filled × AllHeld new filled)))
-    ⊎ ((slot : ℕ) × ((n.store ≡ with_freed slot m.store) × OfStore old (λ store. SameButGate slot store.slots old new)))
+    ⊎ ((gone : List ℕ) × (Makes (map FreeContainer gone) m.store n.store × OfStore old (λ store. OnlyGates gone store.slots old new)))
 
--- One that broke off, by the store that may stand beside that of before: none, and all is as it was; or it has a container more, and all is
--- but the slot for that; or it has a slot closed, and all is but its gate.
+-- One that broke off, by the stores that may stand beside that of before: none, and all is as it was; or it has a container more, and all
+-- is but the slot for that; or they have slots closed, and all is but their gates.
 abbrev pub BreaksOff : FileMachine → FileMachine → List ℕ → List ℕ → Type 0
 BreaksOff m n old new = ((n.state ≡ Stopped None []) × SameStore old new)
     ⊎ ((id : ℕ) × ((filled : Contents) × ((n.state ≡ Stopped None (with_sealed id filled.kind filled.segments m.store ∷ []))
     × (1 < free_slots m.store.held) × SameButSlot old new)))
-    ⊎ ((slot : ℕ) × ((n.state ≡ Stopped None (with_freed slot m.store ∷ []))
-    × OfStore old (λ store. SameButGate slot store.slots old new)))
+    ⊎ ((gone : List ℕ) × ((n.state ≡ Stopped None (stores_without_some gone m.store))
+    × OfStore old (λ store. OnlyGates gone store.slots old new)))
 
 -- ---- an opening
 

@@ -122,7 +122,7 @@ answered_by (Ok (answers.Stat files segments bytes used free)) buf = Ok (done.Co
 answered_by (Ok (answers.Unique segments bytes)) buf = Ok (done.Unique segments bytes)
 answered_by (Err refusal) buf = Err refusal
 
--- It is followed through each step; but where a collection writes what it copied, or gives a container back, only if the disk tells its
+-- It is followed through each step; but where a collection writes what it copied, or gives containers back, only if the disk tells its
 -- content.
 abbrev pub FollowsPhase : Phase → Option (List ℕ) → Type 0
 FollowsPhase phases.Flush content = KnownWith content (λ _. Unit {0})

@@ -6,7 +6,6 @@ use Rattle.merkle_file.specs.declared.top.Top.{Top}
 use Rattle.gc_sweep.specs.declared.sweep.Next.TheVariants as nexts
 use Rattle.gc_sweep.specs.declared.sweep.Sweep.{Sweep as CoreSweep}
 use Rattle.gc_sweep.specs.Copying.{CopiesSource, copy_step}
-use Rattle.gc_sweep.specs.InTurn.{slot_in_turn}
 use Rattle.gc_steps.specs.declared.collection.Collection.{Collection as CoreCollection}
 use Rattle.gc_steps.specs.Stepping.{Moment, phase_at}
 use Rattle.refusals.specs.declared.refusal.Phase.{Phase}
@@ -17,16 +16,24 @@ use Rattle.actor_parts.specs.declared.step.Answer.{Answer}
 use Rattle.actor_parts.specs.declared.step.Answer.TheVariants as answers
 use Rattle.actor_parts.specs.StepValue as steps
 use Rattle.actor_parts.specs.StepValue.{StepValue}
-use Rattle.store_model.specs.Steps.{FlushContainer, FreeContainer, StoreChange, changed}
+use Rattle.store_model.specs.Image.{Store}
+use Rattle.store_model.specs.Steps.{FlushContainer, FreeContainer, StoreChange, with_sealed}
 use Rattle.store_core.specs.Collecting.{at_moment}
 use Rattle.store_core.specs.State.{CoreState}
+use Rattle.store_machine.specs.Collecting.{stores_without_some}
 use Rattle.store_machine.specs.Machine.{Collection, Machine, Stopped}
 
--- what was filled is written under the next id; or the first source that is ready is given back
+-- what was filled is written under the next id; or all sources that are ready are given back
 abbrev pub changes_of : Phase → (last : ℕ) → CoreSweep → List StoreChange
 changes_of phases.Flush last k = FlushContainer (suc last) k.buffer.kind k.buffer.segments ∷ []
-changes_of phases.Release last k = FreeContainer (slot_in_turn k) ∷ []
+changes_of phases.Release last k = map FreeContainer k.ready.items
 changes_of phase last k = []
+
+-- the stores that may stand beside that of before where its write failed: what the step would have made of it, or a part of that
+abbrev pub stores_of : Phase → (last : ℕ) → CoreSweep → Store → List Store
+stores_of phases.Flush last k store = with_sealed (suc last) k.buffer.kind k.buffer.segments store ∷ []
+stores_of phases.Release last k store = stores_without_some k.ready.items store
+stores_of phase last k store = []
 
 -- the keys of the dead copies of a source, in the order of its entries
 abbrev pub dead_in : Option Plan → List (List ℕ)
@@ -54,10 +61,10 @@ pub record MovesAs (phase : Phase) (old new : CoreState) (m n : Machine Root (Li
   pub changes_are : d.changes ≡ c.changes ++ changes_of phase m.last_id before.sweep
   pub forgets : ForgetsBy phase (at_moment old before) (at_moment new after) m.forgotten n.forgotten
 
--- Its write failed: the store that may stand beside that of before is what the step would have made of it.
+-- Its write failed.
 abbrev pub StopsAs : CoreState → (m n : Machine Root (List Top)) → Type 0
 StopsAs old m n = (k : CoreCollection) × (old.collection ≡ Some k) × (n.state
-    ≡ Stopped None (map (λ change. changed change m.store) (changes_of (phase_at k.stage k.sweep.next) m.last_id k.sweep)))
+    ≡ Stopped None (stores_of (phase_at k.stage k.sweep.next) m.last_id k.sweep m.store))
 
 abbrev pub NamesGc : Result Answer Refusal → (old new : CoreState) (m n : Machine Root (List Top)) → Type 0
 NamesGc (Ok (answers.Did phase)) old new m n = MovesAs phase old new m n

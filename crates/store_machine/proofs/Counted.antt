@@ -1,11 +1,12 @@
 -- The ids of the containers that a collection writes and gives back, and how many it writes.
-use Rattle.store_machine.proofs.Prelude.{◌≡◌, ◌+◌, ◌<◌, ◌≤◌, ℕ, zero, suc, Bool, true, false, nat_lt, ListOf, [], ◌∷◌, ◌++◌, length, Option, Some, None, refl, sym, ap, subst, arith, AllByRecursion, HeaderValue, header_of, with_freed, Store, first_free, free_slots, with_slot, ChangeName, FlushContainer, FreeContainer, SealContainer, StoreChange, with_sealed, Makes}
+use Rattle.store_machine.proofs.Prelude.{◌≡◌, ◌+◌, ◌<◌, ◌≤◌, ℕ, zero, suc, Bool, true, false, nat_lt, ListOf, [], ◌∷◌, ◌++◌, length, map, Option, Some, None, refl, sym, ◌∙◌, ap, subst, arith, AllByRecursion, HeaderValue, header_of, there_before, with_freed, Store, first_free, free_slots, with_slot, ChangeName, FlushContainer, FreeContainer, SealContainer, StoreChange, with_sealed, Makes}
 use Rattle.std.proofs.Common.{if◌then◌else◌, slice_get}
 use Rattle.std.proofs.lemmas.Bool.{lt-ltb, ltb-true}
 use Rattle.store_model.specs.Slots.{without_slot}
 use Rattle.store_model.specs.Steps.{changed}
 use Rattle.store_model.proofs.Filled.{free_less, length-with_slot}
 use Rattle.store_model.proofs.Freed.{free_freed, length-without_slot}
+use Rattle.store_machine.specs.Collecting.{StandIn}
 use Rattle.store_machine.specs.CollectsAlone.{IsOfSweep}
 use Rattle.store_machine.specs.CollectsByNeed.{FreesUpTo, TakesIds, written_in}
 
@@ -35,6 +36,40 @@ frees_then last (SealContainer id kind segments ∷ xs) ys s t (can, makes) firs
 frees_then last (ChangeName name change ∷ xs) ys s t (can, makes) first next = frees_then last xs ys (changed (ChangeName name change) s) t makes first next
 frees_then last (FlushContainer id kind segments ∷ xs) ys s t (can, makes) first next = frees_then last xs ys (changed (FlushContainer id kind segments) s) t makes first next
 frees_then last (FreeContainer slot ∷ xs) ys s t (can, makes) first next = (first.0, frees_then last xs ys (changed (FreeContainer slot) s) t makes first.1 next)
+
+-- of slots that are closed: they write nothing, and none had a later id
+pub none_by_freed : (slots : ListOf ℕ) → written_in (map FreeContainer slots) ≡ 0
+none_by_freed [] = refl
+none_by_freed (slot ∷ slots) = none_by_freed slots
+
+pub takes_freed : (last : ℕ) (slots : ListOf ℕ) → TakesIds last (map FreeContainer slots)
+takes_freed last [] = tt
+takes_freed last (slot ∷ slots) = takes_freed last slots
+
+abbrev HasLow : ℕ → Store → ℕ → Type 0
+HasLow last s slot = (h : HeaderValue) → slice_get s.held slot ≡ Some (Some h) → h.id ≤ last
+
+low_then : (last slot : ℕ) (slots : ListOf ℕ) (s : Store) → AllByRecursion (HasLow last s) slots → AllByRecursion (HasLow last (with_freed slot s)) slots
+low_then last slot [] s low = tt
+low_then last slot (other ∷ slots) s low = ((λ h there. low.0 h (there_before slot other h s.held there).1), low_then last slot slots s low.1)
+
+frees_low : (last : ℕ) (slots : ListOf ℕ) (s : Store) → AllByRecursion (HasLow last s) slots → FreesUpTo last (map FreeContainer slots) s
+frees_low last [] s low = tt
+frees_low last (slot ∷ slots) s low = (low.0, frees_low last slots (with_freed slot s) (low_then last slot slots s low.1))
+
+pub frees_freed : (last : ℕ) (ids slots : ListOf ℕ) (s : Store) → StandIn s.held ids slots → AllByRecursion (λ id. id ≤ last) ids → FreesUpTo last (map FreeContainer slots) s
+frees_freed last ids slots s stand low = frees_low last slots s (low_in ids slots stand low)
+  where
+    low_in : (ids slots : ListOf ℕ) → StandIn s.held ids slots → AllByRecursion (λ id. id ≤ last) ids → AllByRecursion (HasLow last s) slots
+    low_in [] [] stand low = tt
+    low_in [] (slot ∷ slots) stand low = absurd stand
+    low_in (id ∷ ids) [] stand low = absurd stand
+    low_in (id ∷ ids) (slot ∷ slots) ((g, there, is), stand) low = (
+      (λ h has.
+          let same : g ≡ h = (let two : Some (Some g) ≡ Some (Some h) = sym there ∙ has in cc) in
+          omega (arith, low.0, is, ap (λ (x : HeaderValue). x.id) same)),
+      low_in ids slots stand low.1,
+    )
 
 -- ---- how many slots have a container of an id above one
 

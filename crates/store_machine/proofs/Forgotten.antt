@@ -1,6 +1,6 @@
 -- A step of the machine of files is one of the machine of roots, once all but the roots is forgotten.
-use Rattle.store_machine.proofs.Prelude.{◌≡◌, inl, inr, ◌≤◌, ◌<◌, ◌+◌, ◌-◌, ◌^◌, ℕ, suc, [], ◌∷◌, ◌++◌, length, map, Contains, Option, Some, None, option_map, Result, Ok, Err, refl, sym, ◌∙◌, ap, subst, PinMap, pin_of, KindSegment, segment_key, Root, Put, Gone, half_cells, LAST_ID, MOST_NAMES, RESERVE, Top, start_of, PartKind, Phase, Refusal, Store, free_slots, last_id, with_freed, CanRise, with_change, with_sealed, Asked, Begins, GoesOn, IsCollecting, Makes, MayBreak, marking, marks_of, phase_in, Done, Forgets, Rests, SameNow, SamePart, SameState, asked_of, forget_collection, Answers, ByState, Claims, Deletes, Does, GivesBytes, GivesUp, HasName, HasNumbers, HasRoom, HasSlot, IsAtEnd, IsAtRightPart, IsUnkept, broken_by, Keeps, LacksNumbers, MayCommit, OpensValue, Refuses, RefusesClaim, RefusesCommit, RefusesDelete, RefusesGcStep, RefusesOn, RefusesRead, RefusesSeal, RefusesUnique, Seals, LegalBy, counted, with_name, without_name, Collection, Found, Idle, Writing, Reading, RunState, Running, Stopped, keeping, kind_of, one_more, part_in, put_at, values_read, MayBeFound, MayRefuseOpening, Reopens, freeing, IsStuck, of_files, of_roots, top_of}
-use Rattle.std.proofs.Common.{List, slice_get, take}
+use Rattle.store_machine.proofs.Prelude.{◌≡◌, inl, inr, ◌≤◌, ◌<◌, ◌+◌, ◌-◌, ◌^◌, ℕ, suc, [], ◌∷◌, ◌++◌, length, map, Contains, Option, Some, None, option_map, Result, Ok, Err, refl, sym, ◌∙◌, ap, subst, PinMap, pin_of, KindSegment, segment_key, Root, Put, Gone, half_cells, LAST_ID, MOST_NAMES, RESERVE, Top, start_of, PartKind, Phase, Refusal, Store, free_slots, CanRise, with_change, with_sealed, Asked, Begins, GoesOn, IsCollecting, Makes, MayBreak, marking, marks_of, phase_in, Done, Forgets, Rests, SameNow, SamePart, SameState, asked_of, forget_collection, Answers, ByState, Claims, Deletes, Does, GivesBytes, GivesUp, HasName, HasNumbers, HasRoom, HasSlot, IsAtEnd, IsAtRightPart, IsUnkept, broken_by, Keeps, LacksNumbers, MayCommit, OpensValue, Refuses, RefusesClaim, RefusesCommit, RefusesDelete, RefusesGcStep, RefusesOn, RefusesRead, RefusesSeal, RefusesUnique, Seals, LegalBy, counted, with_name, without_name, Collection, Found, Idle, Writing, Reading, RunState, Running, Stopped, keeping, kind_of, one_more, part_in, put_at, values_read, MayBeFound, MayRefuseOpening, Reopens, freeing, IsStuck, of_files, of_roots, top_of}
+use Rattle.std.proofs.Common.{List, take}
 use Rattle.std.specs.FinMap as finite
 use Rattle.container_meta.specs.Segments.{Contents}
 use Rattle.refusals.specs.declared.refusal.PartKind.TheVariants as kinds
@@ -9,7 +9,7 @@ use Rattle.refusals.specs.declared.refusal.Refusal.TheVariants as refusals
 use Rattle.store_model.specs.Slots.{newest}
 use Rattle.store_model.specs.Trees.{root_of}
 use Rattle.store_machine.specs.Asked as asked
-use Rattle.store_machine.specs.Collecting.{Ends}
+use Rattle.store_machine.specs.Collecting.{Ends, StandIn, stores_without_some}
 use Rattle.store_machine.specs.Done as done
 use Rattle.store_machine.specs.Forgetting.{RunsAreForgotten, StepsAreForgotten}
 use Rattle.store_machine.specs.Legal.{Commits, taken_by}
@@ -371,13 +371,11 @@ module _ (m : F) (r : G) (same : Forgets m r) where
     ran = one_runs b.c b.ran;
     s = b.s;
     stage_is = b.stage_is;
-    slot = b.slot;
-    header = b.header;
-    there = on_store (λ (x : Store). slice_get x.held b.slot ≡ Some (Some b.header)) b.there;
-    rest = b.rest;
-    ready_is = b.ready_is;
+    some = b.some;
+    slots = b.slots;
+    stand = on_store (λ (x : Store). StandIn x.held b.s.ready b.slots) b.stand;
     spare = λ e. absurd e;
-    stores_are = b.stores_are ∙ sym (λ i. with_freed b.slot (same.store i) ∷ []);
+    stores_are = b.stores_are ∙ sym (ap (stores_without_some b.slots) same.store);
   }))
 
   uncollected : (refusal : Refusal) (n : F) → RefusesGcStep of_files refusal m n → Left (λ t. RefusesGcStep of_roots refusal r t) n

@@ -2,7 +2,7 @@
 use Rattle.store_machine.proofs.Prelude.{◌≡◌, inl, inr, ℕ, suc, [], ◌∷◌, ◌++◌, Some, sym, ◌∙◌, ap, subst, Phase, ContainerLiveness, ids_of, Store, FlushContainer, Chooses, Copies, Flushes, IsRecordOf, JustGoes, Marks, Records, Releases, ids_before, next_of, no_sweep, sources_in, Forgets, forget_collection, Collection, Sweeping, forgotten_beside, of_files, of_roots}
 use Rattle.std.proofs.Common.{List, slice_get}
 use Rattle.refusals.specs.declared.refusal.Phase.TheVariants as phases
-use Rattle.store_machine.specs.Collecting.{Goes, Went}
+use Rattle.store_machine.specs.Collecting.{Goes, StandIn, Went}
 use Rattle.store_machine.proofs.Parts.{F, G}
 
 module _ (m : F) (r : G) (same : Forgets m r) where
@@ -89,16 +89,14 @@ module _ (m : F) (r : G) (same : Forgets m r) where
   )
 
   releases_same : (c : Collection (List ℕ)) (w : Went) → Releases of_files c m w → Releases of_roots (forget_collection c) r w
-  releases_same c w (s, t, id, slot, rest, stage, ready, changes, (header, there, id_is), t_is, next, recorded, forgotten, known) = (
+  releases_same c w (s, t, slots, stage, some, stand, changes, t_is, next, recorded, forgotten, known) = (
     s,
     t,
-    id,
-    slot,
-    rest,
+    slots,
     stage,
-    ready,
+    some,
+    on_store (λ (x : Store). StandIn x.held s.ready slots) stand,
     changes,
-    (header, on_store (λ (x : Store). slice_get x.held slot ≡ Some (Some header)) there, id_is),
     t_is,
     on_store (λ (x : Store). w.stage ≡ Sweeping (next_of x.held (sources_in c) t) t) next,
     recorded,

@@ -1,5 +1,5 @@
 -- What the content of a disk adds is so of each step of the machine of files: it adds no more than that needs.
-use Rattle.store_machine.proofs.Prelude.{◌≡◌, inl, inr, ◌<◌, ℕ, suc, [], ◌∷◌, ◌++◌, length, Some, None, option_map, Result, Ok, Err, refl, sym, ◌∙◌, ap, subst, arith, AllByRecursion, Kind, Segment, Root, PartKind, Phase, Refusal, Store, IsSpare, FreesTo, FlushContainer, FreeContainer, Asked, GoesOn, GoesOver, IsRecordOf, MayBreak, Done, Forgets, SameNow, SamePart, SameState, forget_collection, Answers, ByState, Does, GivesBytes, LegalBy, Refuses, RefusesOn, RefusesRead, Collection, Found, Reading, RunState, Running, Stopped, Sweep, Sweeping, part_in, IsNeeded, NamesNeed, Reopens, freeing, AddsBy, AddsToAnswer, AddsToDone, AddsToOpening, AddsToPhase, AddsToRefused, AddsToStep, ComesNext, StaysAt, of_files, of_roots}
+use Rattle.store_machine.proofs.Prelude.{◌≡◌, inl, inr, ◌<◌, ℕ, suc, [], ◌∷◌, ◌++◌, length, map, Some, None, option_map, Result, Ok, Err, refl, sym, ◌∙◌, ap, subst, arith, AllByRecursion, Kind, Segment, Root, PartKind, Phase, Refusal, Store, IsSpare, FreesTo, FlushContainer, FreeContainer, Asked, GoesOn, GoesOver, IsRecordOf, MayBreak, Done, Forgets, SameNow, SamePart, SameState, forget_collection, Answers, ByState, Does, GivesBytes, LegalBy, Refuses, RefusesOn, RefusesRead, Collection, Found, Reading, RunState, Running, Stopped, Sweep, Sweeping, part_in, IsNeeded, NamesNeed, Reopens, freeing, AddsBy, AddsToAnswer, AddsToDone, AddsToOpening, AddsToPhase, AddsToRefused, AddsToStep, ComesNext, StaysAt, of_files, of_roots}
 use Rattle.std.proofs.Common.{List}
 use Rattle.std.proofs.lemmas.Option.{same_Some}
 use Rattle.std.proofs.lemmas.List.{append-nil, append_cancel_left}
@@ -47,8 +47,14 @@ sweep_of p q s t same = cc
 flushed_of : (i j : ℕ) (k l : Kind) (xs ys : List Segment) → FlushContainer i k xs ≡ FlushContainer j l ys → (k ≡ l) × (xs ≡ ys)
 flushed_of i j k l xs ys same = (cc, cc)
 
-freed_of : (i j : ℕ) → FreeContainer i ≡ FreeContainer j → i ≡ j
-freed_of i j same = cc
+freed_of : (xs ys : List ℕ) → map FreeContainer xs ≡ map FreeContainer ys → xs ≡ ys
+freed_of [] [] same = refl
+freed_of [] (y ∷ ys) same = absurd cc
+freed_of (x ∷ xs) [] same = absurd cc
+freed_of (x ∷ xs) (y ∷ ys) same =
+    let first : x ≡ y = cc in
+    let rest : map FreeContainer xs ≡ map FreeContainer ys = cc in
+    (λ i. first i ∷ freed_of xs ys rest i)
 
 -- the last one that was put behind others
 last_of : {A : Type 0} (xs ys zs : List A) (a b : A) → ys ≡ xs ++ a ∷ [] → zs ≡ ys → zs ≡ xs ++ b ∷ [] → a ≡ b
@@ -100,9 +106,9 @@ module _ (m n : F) (r t : G) (was : Forgets m r) (now : Forgets n t) where
         subst (AllByRecursion (IsCopyOf c m.store other)) both.1 (subst (λ (k : Kind). AllByRecursion (IsCopyOf c m.store k) segments) both.0 (known tt))
 
     released : Goes of_files phases.Release c m w → AddsToPhase phases.Release c d m t
-    released (s, u, id, slot, rest, stage, ready, changes, header, u_is, next, recorded, forgotten, known) other same =
-        let one = append_cancel_left c.changes w.changes (FreeContainer other ∷ []) (sym changes_is ∙ same) in
-        subst (IsSpare (IsNeeded of_files m) m.store.held) (freed_of slot other (one_of _ _ (sym changes ∙ one))) (known tt)
+    released (s, u, slots, stage, some, stand, changes, u_is, next, recorded, forgotten, known) others same =
+        let all = append_cancel_left c.changes w.changes (map FreeContainer others) (sym changes_is ∙ same) in
+        subst (AllByRecursion (IsSpare (IsNeeded of_files m) m.store.held)) (freed_of slots others (sym changes ∙ all)) (known tt)
 
     phase_adds : (phase : Phase) → Goes of_files phase c m w → AddsToPhase phase c d m t
     phase_adds phases.Filter is = recorded_one is

@@ -1,8 +1,8 @@
 -- A step of a collection of the machine of roots is one of that of files.
 use Rattle.store_machine.proofs.Prelude.{◌≡◌, inl, inr, ℕ, suc, [], ◌∷◌, ◌++◌, length, Some, None, refl, sym, ◌∙◌, ap, subst, Root, ids_of, Phase, Store, FlushContainer, StoreChange, Begins, Chooses, Copies, Flushes, GoesOn, GoesOver, JustGoes, Makes, Marks, Records, Releases, freed_in, ids_before, keys_written, next_of, no_sweep, phase_in, sources_in, Forgets, forget_collection, Collection, Sweeping, forgotten_beside, AddsToPhase, AddsToStep, of_files, of_roots}
-use Rattle.std.proofs.Common.{List, slice_get}
+use Rattle.std.proofs.Common.{List}
 use Rattle.refusals.specs.declared.refusal.Phase.TheVariants as phases
-use Rattle.store_machine.specs.Collecting.{Ends, Goes, Went}
+use Rattle.store_machine.specs.Collecting.{Ends, Goes, StandIn, Went}
 use Rattle.store_machine.proofs.Forgotten.{begun_same}
 use Rattle.store_machine.proofs.Parts.{F, G, begun_by, gone_by, with_collection, with_step}
 use Rattle.store_machine.proofs.Recalled.{Recalls, goes, none_runs, on_store, one_runs}
@@ -102,21 +102,19 @@ module _ (m : F) (r : G) (same : Forgets m r) where
     )
 
     releases : Releases of_roots (forget_collection c) r w → AddsToPhase phases.Release c (after c w) m t → Releases of_files c m w
-    releases (s, u, id, slot, rest, stage, ready, changes, (header, there, id_is), u_is, next, recorded, forgotten, known) adds = (
+    releases (s, u, slots, stage, some, stand, changes, u_is, next, recorded, forgotten, known) adds = (
       s,
       u,
-      id,
-      slot,
-      rest,
+      slots,
       stage,
-      ready,
+      some,
+      on_store m r same (λ (x : Store). StandIn x.held s.ready slots) stand,
       changes,
-      (header, on_store m r same (λ (x : Store). slice_get x.held slot ≡ Some (Some header)) there, id_is),
       u_is,
       on_store m r same (λ (x : Store). w.stage ≡ Sweeping (next_of x.held (sources_in c) u) u) next,
       recorded,
       forgotten ∙ same.forgotten,
-      λ told. adds slot (ap (λ (made : List StoreChange). c.changes ++ made) changes),
+      λ told. adds slots (ap (λ (made : List StoreChange). c.changes ++ made) changes),
     )
 
     all_goes : (phase : Phase) → Goes of_roots phase (forget_collection c) r w → AddsToPhase phase c (after c w) m t → Goes of_files phase c m w

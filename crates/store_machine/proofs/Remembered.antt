@@ -1,5 +1,5 @@
 -- A step of the machine of roots is one of the machine of files, where what the content of a disk adds is so.
-use Rattle.store_machine.proofs.Prelude.{inl, inr, ℕ, [], Some, None, Result, Ok, Err, refl, ◌∙◌, ap, subst, Root, Refusal, Asked, Done, Forgets, SameNow, SameState, asked_of, Answers, ByState, Does, LegalBy, counted, Writing, RunState, Running, Stopped, put_at, Reopens, freeing, AddsBy, AddsToAnswer, AddsToDone, AddsToOpening, of_files, of_roots}
+use Rattle.store_machine.proofs.Prelude.{inl, inr, ℕ, Some, None, Result, Ok, Err, refl, ◌∙◌, ap, subst, Root, Refusal, Asked, Done, Forgets, SameNow, SameState, asked_of, Answers, ByState, Does, LegalBy, counted, Writing, RunState, Running, Stopped, put_at, Reopens, freeing, AddsBy, AddsToAnswer, AddsToDone, AddsToOpening, of_files, of_roots}
 use Rattle.std.proofs.Common.{List}
 use Rattle.std.specs.FinMap as finite
 use Rattle.refusals.specs.declared.refusal.PartKind.TheVariants as kinds

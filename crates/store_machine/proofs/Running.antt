@@ -1,19 +1,19 @@
 -- A collection that runs, step by step: what held of it since it began holds after each step; and at its end it has done what it selected.
-use Rattle.store_machine.proofs.Prelude.{AllByRecursion, Bool, Chooses, Collection, ContainerLiveness, Contains, Contains-append_cases, Contains-append_left, Contains-push, Contains-push_cases, Copies, EachOnce, FlushContainer, Flushes, FreeContainer, GoesOver, HasIds, HeaderValue, IsWrittenBy, Kind, Machine, Makes, Marks, Phase, Records, Releases, Segment, Some, Store, StoreChange, Sweep, Sweeping, TakesKey, Values, [], ap, arith, cases_eq, false, first_free, free_slots, freed_in, get_or, header_of, inl, inr, keys_of, keys_written, last_by, length, marking, nat_lt, next_of, no_sweep, refl, segment_key, sources_in, subst, suc, sym, true, with_slot, zero, ℕ, ⊎_elim, ◌++◌, ◌+◌, ◌<◌, ◌↔◌, ◌∙◌, ◌∷◌, ◌≡◌, ◌≢◌, ◌≤◌, ◌⊎◌}
+use Rattle.store_machine.proofs.Prelude.{AllByRecursion, Bool, Chooses, Collection, ContainerLiveness, Contains, Contains-append_cases, Contains-append_left, Contains-push, Contains-push_cases, Copies, EachOnce, FlushContainer, Flushes, FreeContainer, GoesOver, HasIds, HeaderValue, IsWrittenBy, Kind, Machine, Makes, Marks, Phase, Records, Releases, Segment, Some, Store, StoreChange, Sweep, Sweeping, TakesKey, Values, [], ap, arith, cases_eq, false, first_free, free_slots, freed_in, get_or, header_of, inl, inr, keys_of, keys_written, last_by, length, map, marking, nat_lt, next_of, no_sweep, refl, segment_key, sources_in, subst, suc, sym, true, with_slot, zero, ℕ, ⊎_elim, ◌++◌, ◌+◌, ◌<◌, ◌↔◌, ◌∙◌, ◌∷◌, ◌≡◌, ◌≢◌, ◌≤◌, ◌⊎◌}
 use Rattle.std.proofs.Common.{List, ◌&&◌}
-use Rattle.std.proofs.lemmas.List.{append-nil}
+use Rattle.std.proofs.lemmas.List.{append-nil, length-append, length_push}
 use Rattle.std.proofs.lemmas.Option.{same_Some}
 use Rattle.std.proofs.lemmas.Bool.{ltb-true}
 use Rattle.std.proofs.lemmas.List.Elements.{Contains-append_right, Contains-get_or}
-use Rattle.std.proofs.lemmas.List.{length_push}
 use Rattle.gc_select.specs.Selecting.{IsSelectedId, is_selected}
 use Rattle.gc_select.proofs.Chosen.{chosen_which}
 use Rattle.refusals.specs.declared.refusal.Phase.TheVariants as phases
 use Rattle.store_machine.specs.Collecting.{Went}
 use Rattle.store_machine.specs.Machine.{Stage}
 use Rattle.store_machine.proofs.Beside.{SameStore}
-use Rattle.store_machine.proofs.Since.{HoldsSince, less_since, one_since, same_since}
-use Rattle.store_machine.proofs.Swept.{Adds, in_tail, AtStage, SweepsSince, none_ready, by_more, ends_by, filled_at, freed_more, in_cases, none_filled, none_in, once_both, takes_all, written_more}
+use Rattle.store_machine.proofs.Released.{all_freed_in, all_in, as_many, last_by_freeing, no_keys_written, none_by_freeing}
+use Rattle.store_machine.proofs.Since.{HoldsSince, all_less, one_since, same_since}
+use Rattle.store_machine.proofs.Swept.{Adds, AtStage, SweepsSince, none_ready, by_more, ends_by, filled_at, freed_more, in_cases, none_filled, none_in, once_both, takes_all, written_more}
 
 -- ---- words
 
@@ -429,39 +429,40 @@ module _ {V R : Type 0} where
         })
 
     pub released : HasIds m.store m.last_id → Releases v c k w → Since m n after S' T'
-    released ids (s, t, id, slot, rest, was, ready, changes, (header, there, id_is), t_is, next, recorded, forgotten, spare) =
-        let made : Makes (FreeContainer slot ∷ []) k.store n.store = subst (λ (ch : List StoreChange). Makes ch k.store n.store) changes steps.makes in
+    released ids (s, t, slots, was, some, stand, changes, t_is, next, recorded, forgotten, spare) =
+        let made : Makes (map FreeContainer slots) k.store n.store = subst (λ (ch : List StoreChange). Makes ch k.store n.store) changes steps.makes in
         let so : SweepsSince (sources_in c) since.gone phases.Release s = subst (AtStage c since.gone) was since.stage in
-        let source : Contains (sources_in c) id = so.from id (inr (inr (subst (λ (ids : List ℕ). Contains ids id) (sym ready) (0, omega arith, refl)))) in
         let written : keys_written (c.changes ++ w.changes) ≡ keys_written c.changes =
-        ap (λ (ch : List StoreChange). keys_written (c.changes ++ ch)) changes ∙ written_more c.changes (FreeContainer slot ∷ []) ∙ append-nil (keys_written c.changes) in
+        ap (λ (ch : List StoreChange). keys_written (c.changes ++ ch)) changes ∙ written_more c.changes (map FreeContainer slots)
+        ∙ ap (λ (ks : List (List ℕ)). keys_written c.changes ++ ks) (no_keys_written slots) ∙ append-nil (keys_written c.changes) in
         let filled : filled_at w.stage ≡ filled_at c.stage = ap filled_at next ∙ ap (λ (x : Sweep). x.filled) t_is ∙ sym (ap filled_at was) in
         record {
           ran = steps.runs;
           snapshot_is = since.snapshot_is;
-          gone = since.gone ++ id ∷ [];
-          holds = less_since m k n (λ g. S g ⊎ IsWrittenBy c.changes g) (λ g. S' g ⊎ IsWrittenBy (c.changes ++ w.changes) g) since.gone since.holds slot id header ids there id_is
-              (old_source id source) (ap (λ (x : Store). x.held) made.1) (steps.last ∙ ap (λ (ch : List StoreChange). last_by ch k.last_id) changes)
-              (λ g. subst (λ (ch : List StoreChange). (S g ⊎ IsWrittenBy c.changes g) ↔ (S' g ⊎ IsWrittenBy (c.changes ++ ch) g)) (sym changes) (same_written g slot));
+          gone = since.gone ++ s.ready;
+          holds = all_less m k n (λ g. S g ⊎ IsWrittenBy c.changes g) (λ g. S' g ⊎ IsWrittenBy (c.changes ++ w.changes) g) since.gone since.holds ids s.ready slots stand
+              (all_in (λ id. id ≤ m.last_id) s.ready (λ id ready. old_source id (so.from id (inr (inr ready))))) made
+              (steps.last ∙ ap (λ (ch : List StoreChange). last_by ch k.last_id) changes ∙ last_by_freeing slots k.last_id)
+              (λ g. subst (λ (ch : List StoreChange). (S g ⊎ IsWrittenBy c.changes g) ↔ (S' g ⊎ IsWrittenBy (c.changes ++ ch) g)) (sym changes) (same_written g slots));
           freed =
               omega (
                 arith,
                 ap (λ (ch : List StoreChange). freed_in (c.changes ++ ch)) changes,
-                freed_more c.changes
-                    (FreeContainer slot ∷ []),
+                freed_more c.changes (map FreeContainer slots),
+                all_freed_in slots,
+                as_many k.store.held s.ready slots stand,
                 since.freed,
-                length_push since.gone id,
+                length-append since.gone s.ready,
               );
           keys = λ key. subst (λ (ks : List (List ℕ)). T' key ↔ (Contains ks key ⊎ Contains (filled_at w.stage) key)) (sym written)
               (subst (λ (ks : List (List ℕ)). T' key ↔ (Contains (keys_written c.changes) key ⊎ Contains ks key)) (sym filled)
               (flip (none_taken (λ copying. subst IsCopying was copying) key) (since.keys key)));
           once = subst EachOnce (sym written) since.once;
           filled_once = subst EachOnce (sym filled) since.filled_once;
-          stage = subst (λ (st : Stage). AtStage after (since.gone ++ id ∷ []) st) (sym next)
-              (subst (λ (rs : List ContainerLiveness). SweepsSince (sources_in (record after { recorded = rs })) (since.gone ++ id ∷ []) (next_of k.store.held (sources_in c) t) t)
+          stage = subst (λ (st : Stage). AtStage after (since.gone ++ s.ready) st) (sym next)
+              (subst (λ (rs : List ContainerLiveness). SweepsSince (sources_in (record after { recorded = rs })) (since.gone ++ s.ready) (next_of k.store.held (sources_in c) t) t)
               (sym recorded)
-              (subst (λ (x : Sweep). SweepsSince (sources_in c) (since.gone ++ id ∷ []) (next_of k.store.held (sources_in c) x) x) (sym t_is)
-              (swept_now s id rest ready source so)));
+              (subst (λ (x : Sweep). SweepsSince (sources_in c) (since.gone ++ s.ready) (next_of k.store.held (sources_in c) x) x) (sym t_is) (swept_now s so)));
         }
       where
         old_source : (id : ℕ) → Contains (sources_in c) id → id ≤ m.last_id
@@ -472,32 +473,30 @@ module _ {V R : Type 0} where
             below : (r : ContainerLiveness) (id : ℕ) → r.id ≡ id → is_selected c.snapshot c.percent r ≡ true → id < c.snapshot
             below r id same selected_is = omega (arith, same, ltb-true r.id c.snapshot (and_first (nat_lt r.id c.snapshot) _ selected_is))
 
-        same_written : (g : HeaderValue) (slot : ℕ) → (S g ⊎ IsWrittenBy c.changes g) ↔ (S' g ⊎ IsWrittenBy (c.changes ++ FreeContainer slot ∷ []) g)
-        same_written g slot = (to, from)
+        same_written : (g : HeaderValue) (slots : List ℕ) → (S g ⊎ IsWrittenBy c.changes g) ↔ (S' g ⊎ IsWrittenBy (c.changes ++ map FreeContainer slots) g)
+        same_written g slots = (to, from)
           where
-            more : IsWrittenBy (c.changes ++ FreeContainer slot ∷ []) g ↔ (IsWrittenBy c.changes g ⊎ ⊥)
-            more = by_more c.changes (FreeContainer slot ∷ []) g
+            more : IsWrittenBy (c.changes ++ map FreeContainer slots) g ↔ (IsWrittenBy c.changes g ⊎ IsWrittenBy (map FreeContainer slots) g)
+            more = by_more c.changes (map FreeContainer slots) g
 
-            to : S g ⊎ IsWrittenBy c.changes g → S' g ⊎ IsWrittenBy (c.changes ++ FreeContainer slot ∷ []) g
+            to : S g ⊎ IsWrittenBy c.changes g → S' g ⊎ IsWrittenBy (c.changes ++ map FreeContainer slots) g
             to (inl one) = inl ((words g).0 one)
             to (inr one) = inr (more.1 (inl one))
 
-            from : S' g ⊎ IsWrittenBy (c.changes ++ FreeContainer slot ∷ []) g → S g ⊎ IsWrittenBy c.changes g
+            from : S' g ⊎ IsWrittenBy (c.changes ++ map FreeContainer slots) g → S g ⊎ IsWrittenBy c.changes g
             from (inl one) = inl ((words g).1 one)
-            from (inr one) = ⊎_elim (λ old. inr old) (λ none. absurd none) (more.0 one)
+            from (inr one) = ⊎_elim (λ old. inr old) (λ new. absurd (none_by_freeing slots g new)) (more.0 one)
 
-        swept_now : (s : Sweep) (id : ℕ) (rest : List ℕ) → s.ready ≡ id ∷ rest → Contains (sources_in c) id → SweepsSince (sources_in c) since.gone phases.Release s
-            → (let t : Sweep = record s { ready = rest } in SweepsSince (sources_in c) (since.gone ++ id ∷ []) (next_of k.store.held (sources_in c) t) t)
-        swept_now s id rest ready source so = record {
+        swept_now : (s : Sweep) → SweepsSince (sources_in c) since.gone phases.Release s
+            → (let t : Sweep = record s { ready = [] } in SweepsSince (sources_in c) (since.gone ++ s.ready) (next_of k.store.held (sources_in c) t) t)
+        swept_now s so = record {
           before = so.before;
-          counted = omega (arith, so.counted, ap length ready, length_push since.gone id);
-          into = λ i few. ⊎_elim (λ a. inl (Contains-append_left since.gone (id ∷ []) _ a)) (λ b. ⊎_elim (λ one. inr (inl one))
-              (λ one. ⊎_elim (λ same. inl (subst (Contains (since.gone ++ id ∷ [])) same (Contains-push since.gone id))) (λ later. inr (inr later))
-              (in_cases id rest _ (subst (λ (ids : List ℕ). Contains ids (get_or (sources_in c) i 0)) ready one))) b) (so.into i few);
-          from = λ x one. ⊎_elim (λ a. ⊎_elim (λ old. so.from x (inl old)) (λ same. subst (Contains (sources_in c)) same source) (Contains-push_cases since.gone id x a))
-              (λ b. ⊎_elim (λ waiting. so.from x (inr (inl waiting)))
-              (λ later. so.from x (inr (inr (subst (λ (ids : List ℕ). Contains ids x) (sym ready) (in_tail id rest x later))))) b) one;
+          counted = omega (arith, so.counted, length-append since.gone s.ready);
+          into = λ i few. ⊎_elim (λ a. inl (Contains-append_left since.gone s.ready _ a))
+              (λ b. ⊎_elim (λ waiting. inr (inl waiting)) (λ ready. inl (Contains-append_right since.gone s.ready _ ready)) b) (so.into i few);
+          from = λ x one. ⊎_elim (λ a. ⊎_elim (λ old. so.from x (inl old)) (λ ready. so.from x (inr (inr ready))) (Contains-append_cases since.gone s.ready x a))
+              (λ b. ⊎_elim (λ waiting. so.from x (inr (inl waiting))) (λ none. absurd (none_in x none)) b) one;
           waits = so.waits;
-          flushes = λ flush. none_ready k.store.held (sources_in c) s.source rest s.filled flush;
-          ends = λ end. ends_by k.store.held (sources_in c) s.source rest s.filled end;
+          flushes = λ flush. none_ready k.store.held (sources_in c) s.source [] s.filled flush;
+          ends = λ end. ends_by k.store.held (sources_in c) s.source [] s.filled end;
         }

@@ -1,9 +1,12 @@
 -- What holds of a collection that runs, since it began, whatever steps came between.
-use Rattle.store_machine.proofs.Prelude.{◌≡◌, ◌≢◌, ◌⊎◌, ◌↔◌, ◌<◌, ◌≤◌, inl, inr, ⊎_elim, ℕ, zero, suc, [], ◌∷◌, ◌++◌, length, Contains, Option, Some, None, refl, sym, ◌∙◌, ap, subst, arith, cases_eq, Contains-append_left, Contains-push, Contains-push_cases, HeaderValue, first_free, free_slots, with_slot, there_before, HasContainer, HasIds, Machine}
+use Rattle.store_machine.proofs.Prelude.{◌≡◌, ◌≢◌, ◌⊎◌, ◌↔◌, ◌<◌, ◌≤◌, inl, inr, ⊎_elim, ℕ, zero, suc, [], ◌∷◌, ◌++◌, length, map, Contains, Option, Some, None, refl, sym, ◌∙◌, ap, subst, arith, cases_eq, Contains-append_left, Contains-push, Contains-push_cases, AllByRecursion, HeaderValue, first_free, free_slots, with_slot, there_before, with_freed, Store, FreeContainer, HasContainer, HasIds, Makes, Machine}
 use Rattle.std.proofs.Common.{List, slice_get}
+use Rattle.std.proofs.lemmas.List.{append-nil, append_assoc}
 use Rattle.store_model.specs.Slots.{without_slot}
 use Rattle.store_model.proofs.Free.{first_closed, some_free}
 use Rattle.store_model.proofs.Freed.{other_there}
+use Rattle.store_machine.specs.Collecting.{StandIn}
+use Rattle.store_machine.proofs.Released.{made_stand, stand_then}
 
 -- ---- containers of slots
 
@@ -142,7 +145,7 @@ module _ {V R : Type 0} where
         there_by g (inr is) = (free, subst (λ (x : HeaderValue). HasContainer n.store free x) (sym is) new_there)
 
     -- one fewer, that was there: its id is given back
-    pub less_since : (slot id : ℕ) (h : HeaderValue) → HasIds m.store m.last_id → HasContainer k.store slot h → h.id ≡ id → id ≤ m.last_id
+    less_since : (slot id : ℕ) (h : HeaderValue) → HasIds m.store m.last_id → HasContainer k.store slot h → h.id ≡ id → id ≤ m.last_id
         → n.store.held ≡ without_slot slot k.store.held → n.last_id ≡ k.last_id → ((g : HeaderValue) → S g ↔ T g) → HoldsSince m n T (gone ++ id ∷ [])
     less_since slot id h ids has id_is old held last words = record {
       last = omega (arith, since.last, last);
@@ -200,3 +203,17 @@ module _ {V R : Type 0} where
             let differ : slot ≢ one.0 =
             λ same. (let g_is = same_one one.0 g same one.1 in absurd (omega (arith, since.late g is, ap (λ (x : HeaderValue). x.id) g_is, id_is, old))) in
             (one.0, kept one.0 g differ one.1)
+
+  -- fewer, those in these slots, that were there: their ids are given back
+  pub all_less : (m k n : Machine V R) (S T : HeaderValue → Type 0) (gone : List ℕ) → HoldsSince m k S gone → HasIds m.store m.last_id → (ids slots : List ℕ)
+      → StandIn k.store.held ids slots → AllByRecursion (λ id. id ≤ m.last_id) ids → Makes (map FreeContainer slots) k.store n.store → n.last_id ≡ k.last_id
+      → ((g : HeaderValue) → S g ↔ T g) → HoldsSince m n T (gone ++ ids)
+  all_less m k n S T gone since had [] [] stand old makes last words =
+      subst (HoldsSince m n T) (sym (append-nil gone)) (same_since m k n S T gone since (ap (λ (s : Store). s.held) makes) last words)
+  all_less m k n S T gone since had [] (slot ∷ slots) stand old makes last words = absurd stand
+  all_less m k n S T gone since had (id ∷ ids) [] stand old makes last words = absurd stand
+  all_less m k n S T gone since had (id ∷ ids) (slot ∷ slots) ((h, there, is), stand) old (can, makes) last words =
+      let mid : Machine V R = record k { store = with_freed slot k.store } in
+      let one : HoldsSince m mid S (gone ++ id ∷ []) = less_since m k mid S S gone since slot id h had there is old.0 refl refl (λ g. ((λ was. was), (λ was. was))) in
+      let still = stand_then slot ids slots k.store.held (made_stand slots (with_freed slot k.store) n.store makes) stand in
+      subst (HoldsSince m n T) (append_assoc gone (id ∷ []) ids) (all_less m mid n S T (gone ++ id ∷ []) one had ids slots still old.1 makes last words)

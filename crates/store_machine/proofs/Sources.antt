@@ -1,5 +1,5 @@
 -- A collection, no other step of which comes between: which containers it copied from and gives back, and the ids of those that it wrote.
-use Rattle.store_machine.proofs.Prelude.{◌≡◌, ◌≢◌, ◌⊎◌, ◌+◌, ◌<◌, ◌≤◌, inl, inr, ⊎_elim, ℕ, zero, suc, Bool, true, false, nat_lt, ListOf, [], ◌∷◌, ◌++◌, get_or, length, Contains, Option, Some, None, option_map, Result, Ok, refl, sym, ◌∙◌, ap, subst, arith, Contains-append_cases, Contains-push_cases, Entry, Kind, Segment, HeaderValue, Phase, Refusal, Store, last_id, FlushContainer, FreeContainer, StoreChange, Asked, FileMachine, Gathered, GoesOn, GoesOver, Makes, TakesAll, TakesOne, keys_written, last_by, marking, next_of, sources_in, Sweeps, Done, ByState, Legal, AreDid, Found, RunState, Running, Marking, Recording, Sweep, Sweeping, NamesNeed, keys_of, Run, of_files}
+use Rattle.store_machine.proofs.Prelude.{◌≡◌, ◌≢◌, ◌⊎◌, ◌+◌, ◌<◌, ◌≤◌, inl, inr, ⊎_elim, ℕ, zero, suc, Bool, true, false, nat_lt, ListOf, [], ◌∷◌, ◌++◌, get_or, length, map, Contains, Option, Some, None, option_map, Result, Ok, refl, sym, ◌∙◌, ap, subst, arith, Contains-append_cases, Contains-push_cases, Entry, Kind, Segment, HeaderValue, Phase, Refusal, Store, last_id, FlushContainer, FreeContainer, StoreChange, Asked, FileMachine, Gathered, GoesOn, GoesOver, Makes, TakesAll, TakesOne, keys_written, last_by, marking, next_of, sources_in, Sweeps, Done, ByState, Legal, AreDid, Found, RunState, Running, Marking, Recording, Sweep, Sweeping, NamesNeed, keys_of, Run, of_files}
 use Rattle.std.proofs.Common.{slice_get}
 use Rattle.std.proofs.lemmas.Option.{same_Some}
 use Rattle.std.proofs.lemmas.Bool.{ltb-true}
@@ -20,16 +20,16 @@ use Rattle.disk_format.specs.declared.numbers.TheConstants.{RESERVE}
 use Rattle.container_meta.specs.Spelling.{IsHeader, header_of}
 use Rattle.store_model.specs.Slots.{free_slots}
 use Rattle.store_model.proofs.Filled.{free_less}
-use Rattle.store_model.proofs.Freed.{free_freed}
 use Rattle.store_machine.specs.CollectsAlone.{CountsIds, HasRoomStill}
 use Rattle.store_machine.specs.CollectsByNeed.{FreesUpTo, TakesIds, written_in}
 use Rattle.store_machine.specs.Done as done
 use Rattle.store_machine.specs.Machine.{Stage}
-use Rattle.store_machine.proofs.Counted.{few_written, free_within, frees_then, takes_then, written_then}
+use Rattle.store_machine.proofs.Counted.{few_written, free_within, frees_freed, frees_then, none_by_freed, takes_freed, takes_then, written_then}
 use Rattle.store_machine.proofs.Moved.{spares_of, still_newest}
+use Rattle.store_machine.proofs.Released.{all_in, as_many, free_made, last_by_freeing, no_keys_written}
 use Rattle.store_machine.proofs.Stepwise.{Step}
 use Rattle.store_machine.proofs.SweptAlone.{ByStage, C, Tied, names_need, tied_on}
-use Rattle.store_machine.proofs.Swept.{head_of, in_cases, in_tail, none_in, written_more}
+use Rattle.store_machine.proofs.Swept.{in_cases, in_tail, none_in, written_more}
 
 -- ---- keys
 
@@ -164,17 +164,12 @@ module _ (percent : ℕ) (now : Found (ListOf ℕ)) (opened : Store) (m : FileMa
   adds_ids phases.Copy w goes = none_adds w goes.6
   adds_ids phases.Flush w (s, t, kind, segments, was, one, keys, t_is, is, recorded, forgotten, copies) =
       subst (AddsIds first m.last_id m.store) (sym one) (record { ids = (refl, tt); last_is = omega arith; earlier = tt })
-  adds_ids phases.Release w (s, t, id, slot, rest, was, ready, one, (header, there, id_is), t_is, is, recorded, forgotten, spare) =
-      subst (AddsIds first m.last_id m.store) (sym one) (record {
-        ids = tt;
-        last_is = omega arith;
-        earlier = (
-          (λ h has.
-              let same_header : header ≡ h = (let two : Some (Some header) ≡ Some (Some h) = sym there ∙ has in cc) in
-              let source = (at_sweep phases.Release s was).ready id (subst (λ (ids : ListOf ℕ). Contains ids id) (sym ready) (head_of id rest)) in
-              omega (arith, source_first id source, id_is, ap (λ (x : HeaderValue). x.id) same_header)),
-          tt,
-        );
+  adds_ids phases.Release w (s, t, slots, was, some, stand, changes, t_is, is, recorded, forgotten, spare) =
+      subst (AddsIds first m.last_id m.store) (sym changes) (record {
+        ids = takes_freed m.last_id slots;
+        last_is = omega (arith, last_by_freeing slots m.last_id, none_by_freed slots);
+        earlier = frees_freed first s.ready slots m.store stand
+            (all_in (λ id. id ≤ first) s.ready (λ id has. source_first id ((at_sweep phases.Release s was).ready id has)));
       })
   adds_ids phase w goes = absurd goes
 
@@ -322,14 +317,13 @@ module _ (percent : ℕ) (now : Found (ListOf ℕ)) (opened : Store) (m : FileMa
         waiting = λ id has. absurd (none_in id (subst (λ (x : Sweep). Contains x.waiting id) t_is has));
         ready = λ id has. on w recorded id (sourced.waiting id (subst (λ (x : Sweep). Contains x.ready id) t_is has));
       })
-  sourced_by phases.Release w (s, t, id, slot, rest, was, ready, one, header, t_is, is, recorded, forgotten, spare) =
+  sourced_by phases.Release w (s, t, slots, was, some, stand, changes, t_is, is, recorded, forgotten, spare) =
       let sourced = at_sweep phases.Release s was in
       by_stage w _ t is (record {
-        written = written_on w s sourced recorded (no_key w (ap keys_written one));
+        written = written_on w s sourced recorded (no_key w (ap keys_written changes ∙ no_keys_written slots));
         filled = λ key has. of_source_on w recorded key (sourced.filled key (subst (λ (x : Sweep). Contains x.filled key) t_is has));
         waiting = λ other has. on w recorded other (sourced.waiting other (subst (λ (x : Sweep). Contains x.waiting other) t_is has));
-        ready = λ other has. on w recorded other (sourced.ready other (subst (λ (ids : ListOf ℕ). Contains ids other) (sym ready)
-            (in_tail id rest other (subst (λ (x : Sweep). Contains x.ready other) t_is has))));
+        ready = λ other has. absurd (none_in other (subst (λ (x : Sweep). Contains x.ready other) t_is has));
       })
   sourced_by phase w goes = absurd goes
 
@@ -411,14 +405,12 @@ module _ (percent : ℕ) (now : Found (ListOf ℕ)) (opened : Store) (m : FileMa
         room = λ room. omega (arith, less, made.0.slot, waiting, ap (λ (x : Sweep). length x.ready) t_is);
         idle = idle_now t;
       })
-  room_by phases.Release w store (s, t, id, slot, rest, was, ready, one, (header, there, id_is), t_is, is, recorded, forgotten, spare) makes =
+  room_by phases.Release w store (s, t, slots, was, some, stand, changes, t_is, is, recorded, forgotten, spare) makes =
       let at = at_room phases.Release s was in
-      let made : Makes (FreeContainer slot ∷ []) m.store store = subst (λ (xs : ListOf StoreChange). Makes xs m.store store) one makes in
-      let more : free_slots store.held ≡ suc (free_slots m.store.held) =
-      subst (λ (x : Store). free_slots x.held ≡ suc (free_slots m.store.held)) (sym made.1) (free_freed slot header m.store.held there) in
+      let made : Makes (map FreeContainer slots) m.store store = subst (λ (xs : ListOf StoreChange). Makes xs m.store store) changes makes in
       room_to w store _ t is (record {
         waits = λ some none. at.waits (λ empty. some (ap (λ (x : Sweep). x.filled) t_is ∙ empty)) (sym (ap (λ (x : Sweep). x.waiting) t_is) ∙ none);
-        room = λ room. omega (arith, at.room room, more, ap length ready, ap (λ (x : Sweep). length x.ready) t_is);
+        room = λ room. omega (arith, at.room room, free_made slots m.store store made, as_many m.store.held s.ready slots stand, ap (λ (x : Sweep). length x.ready) t_is);
         idle = idle_now t;
       })
   room_by phase w store goes makes = absurd goes

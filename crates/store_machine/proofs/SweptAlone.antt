@@ -1,15 +1,19 @@
 -- A collection, no other step of which comes between: what it recorded and changed since the store was opened.
-use Rattle.store_machine.proofs.Prelude.{◌≡◌, ◌≤◌, inl, inr, ⊎_elim, ℕ, zero, suc, ListOf, [], ◌∷◌, ◌++◌, Contains, Option, Some, None, sym, ◌∙◌, ap, subst, arith, AllByRecursion, Contains-push_cases, Entry, Kind, Segment, segment_key, HeaderValue, ContainerLiveness, ids_of, Phase, FreesTo, with_freed, Store, IsSpare, last_id, ChangeName, FlushContainer, FreeContainer, SealContainer, StoreChange, there_before, FileMachine, MakesRoom, HasContainer, HasIds, Gathered, IsRecordOf, Makes, TakesAll, TakesOne, ids_before, keys_written, marking, Sweeps, Collection, Found, Marking, Recording, Sweep, Sweeping, HasCopy, IsNeeded, NamesNeed, keys_of, of_files}
+use Rattle.store_machine.proofs.Prelude.{◌≡◌, ◌≤◌, inl, inr, ⊎_elim, ℕ, zero, suc, ListOf, [], ◌∷◌, ◌++◌, map, Contains, Option, Some, None, sym, ◌∙◌, ap, subst, arith, AllByRecursion, Contains-push_cases, Entry, Kind, Segment, segment_key, HeaderValue, ContainerLiveness, ids_of, Phase, with_freed, Store, IsSpare, last_id, ChangeName, FlushContainer, FreeContainer, SealContainer, StoreChange, FileMachine, MakesRoom, HasContainer, HasIds, Gathered, IsRecordOf, Makes, TakesAll, TakesOne, ids_before, keys_written, marking, Sweeps, Collection, Found, Marking, Recording, Sweep, Sweeping, HasCopy, IsNeeded, NamesNeed, keys_of, of_files}
 use Rattle.std.proofs.Common.{slice_get}
 use Rattle.ingest_session.proofs.Lists.{all_and_one}
 use Rattle.std.specs.FinMap as finite
 use Rattle.refusals.specs.declared.refusal.Phase.TheVariants as phases
 use Rattle.store_model.specs.Needed.{SumsNeeded}
+use Rattle.store_model.specs.Reserve.{HoldsNone}
 use Rattle.store_model.specs.Steps.{changed}
+use Rattle.store_model.proofs.FreedAll.{none_then}
+use Rattle.store_model.proofs.FreedFiles.{freed_to}
 use Rattle.store_machine.specs.Collecting.{Goes, Went}
 use Rattle.store_machine.specs.CollectsAlone.{HasChosen, IsNeededCopy, IsOfSweep, IsRecorded, KeepsNeeded}
 use Rattle.store_machine.specs.Machine.{Stage}
 use Rattle.store_machine.specs.Needs.{NeededSince, OneNeeds}
+use Rattle.store_machine.proofs.Released.{there_all}
 use Rattle.store_machine.proofs.Swept.{filled_at, head_of, in_tail, none_filled, none_in}
 
 abbrev pub C : Type 0
@@ -29,6 +33,19 @@ keeps_then now (FlushContainer id kind segments ∷ xs) ys s t (can, first) (one
 keeps_then now (SealContainer id kind segments ∷ xs) ys s t (can, first) keeps next = keeps_then now xs ys (changed (SealContainer id kind segments) s) t first keeps next
 keeps_then now (ChangeName name change ∷ xs) ys s t (can, first) keeps next = keeps_then now xs ys (changed (ChangeName name change) s) t first keeps next
 
+-- Each slot that is closed has the newest copy of nothing that is needed; so it has once those before it are.
+keeps_freed : (now : Found (ListOf ℕ)) (slots : ListOf ℕ) (s t : Store) → Makes (map FreeContainer slots) s t → AllByRecursion (HoldsNone (NamesNeed of_files now) s.held) slots
+    → KeepsNeeded now (map FreeContainer slots) s
+keeps_freed now [] s t makes none = tt
+keeps_freed now (slot ∷ slots) s t ((h, there), makes) none = (
+  record { header = h; holds = there; none = none.0 },
+  keeps_freed now slots (with_freed slot s) t makes (none_then (NamesNeed of_files now) slot slots s.held none.0 none.1),
+)
+
+all_of_sweep : (slots : ListOf ℕ) → AllByRecursion IsOfSweep (map FreeContainer slots)
+all_of_sweep [] = tt
+all_of_sweep (slot ∷ slots) = (tt, all_of_sweep slots)
+
 each_then : (xs ys : ListOf StoreChange) → AllByRecursion IsOfSweep xs → AllByRecursion IsOfSweep ys → AllByRecursion IsOfSweep (xs ++ ys)
 each_then [] ys first next = next
 each_then (x ∷ xs) ys (one, first) next = (one, each_then xs ys first next)
@@ -43,11 +60,6 @@ id_within (Some g ∷ cs) zero h is = let same : g ≡ h = (let both : Some (Som
 id_within (None ∷ cs) (suc slot) h is = id_within cs slot h is
 id_within (Some g ∷ cs) (suc slot) h is = omega (arith, id_within cs slot h is)
 
--- what is there once containers were given back was there before
-were_there : (P : ListOf ℕ → Type 0) (slots : ListOf ℕ) (s t : Store) → FreesTo P slots s t → (slot : ℕ) (h : HeaderValue) → HasContainer t slot h → HasContainer s slot h
-were_there P [] s t frees slot h has = subst (λ (x : Store). HasContainer x slot h) frees.0 has
-were_there P (a ∷ rest) s t (few, least, more) slot h has = (there_before a slot h s.held (were_there P rest (with_freed a s) t more slot h has)).1
-
 pub opened_ids : (start : FileMachine) (opened : Store) (last : ℕ) → MakesRoom start opened → last ≡ last_id opened.held → HasIds start.store start.last_id → HasIds opened last
 opened_ids start opened last (slots, frees) last_is ids = record {
   differ = λ slot other h g has had same. ids.differ slot other h g (before slot h has) (before other g had) same;
@@ -55,7 +67,8 @@ opened_ids start opened last (slots, frees) last_is ids = record {
 }
   where
     before : (slot : ℕ) (h : HeaderValue) → HasContainer opened slot h → HasContainer start.store slot h
-    before = were_there (NamesNeed of_files start.now) slots start.store opened frees
+    before slot h has = there_all slots start.store slot h
+        (subst (λ (x : Store). HasContainer x slot h) (freed_to (NamesNeed of_files start.now) slots start.store opened frees) has)
 
 -- ---- what is recorded
 
@@ -118,12 +131,12 @@ has_chosen percent now opened store c next s tied at = record {
 
 module _ (percent : ℕ) (now : Found (ListOf ℕ)) (opened : Store) (m : FileMachine) (same : m.now ≡ now) (c : C) (tied : Tied percent now opened m.store c) where
   -- what a step changes
-  fewer : (slot : ℕ) → IsSpare (IsNeeded of_files m) m.store.held slot → IsSpare (NamesNeed of_files now) m.store.held slot
-  fewer slot spare = record {
-    header = spare.header;
-    holds = spare.holds;
-    none = λ key copy needs. spare.none key copy (inl (subst (λ (f : Found (ListOf ℕ)). NamesNeed of_files f key) (sym same) needs));
-  }
+  fewer : (slots : ListOf ℕ) → AllByRecursion (IsSpare (IsNeeded of_files m) m.store.held) slots → AllByRecursion (HoldsNone (NamesNeed of_files now) m.store.held) slots
+  fewer [] spare = tt
+  fewer (slot ∷ slots) spare = (
+    (λ key copy needs. spare.0.none key copy (inl (subst (λ (f : Found (ListOf ℕ)). NamesNeed of_files f key) (sym same) needs))),
+    fewer slots spare.1,
+  )
 
   abbrev Needed : ListOf ℕ → Type 0
   Needed key = NamesNeed of_files now key
@@ -145,20 +158,21 @@ module _ (percent : ℕ) (now : Found (ListOf ℕ)) (opened : Store) (m : FileMa
     all_copies kind xs (λ key is. needs key (in_tail (segment_key kind x) (keys_of kind xs) key is)) all,
   )
 
-  kept : (phase : Phase) (w : Went) → Goes of_files phase c m w → KeepsNeeded now w.changes m.store
-  kept phases.Mark w (left, was, is, (recorded, none, forgotten)) = none_kept w none
-  kept phases.Filter w goes = none_kept w goes.4
-  kept phases.Select w (was, all, is, (recorded, none, forgotten)) = none_kept w none
-  kept phases.Copy w goes = none_kept w goes.6
-  kept phases.Flush w (s, t, kind, segments, was, one, keys, t_is, is, recorded, forgotten, copies) =
+  kept : (phase : Phase) (w : Went) (store : Store) → Goes of_files phase c m w → Makes w.changes m.store store → KeepsNeeded now w.changes m.store
+  kept phases.Mark w store (left, was, is, (recorded, none, forgotten)) makes = none_kept w none
+  kept phases.Filter w store goes makes = none_kept w goes.4
+  kept phases.Select w store (was, all, is, (recorded, none, forgotten)) makes = none_kept w none
+  kept phases.Copy w store goes makes = none_kept w goes.6
+  kept phases.Flush w store (s, t, kind, segments, was, one, keys, t_is, is, recorded, forgotten, copies) makes =
       subst (λ (xs : ListOf StoreChange). KeepsNeeded now xs m.store) (sym one) (
         all_copies kind segments (λ key has. was_filled phases.Flush s was key (subst (λ (ks : ListOf (ListOf ℕ)). Contains ks key) keys has))
             (copies tt),
         tt,
       )
-  kept phases.Release w (s, t, id, slot, rest, was, ready, one, header, t_is, is, recorded, forgotten, spare) =
-      subst (λ (xs : ListOf StoreChange). KeepsNeeded now xs m.store) (sym one) (fewer slot (spare tt), tt)
-  kept phase w goes = absurd goes
+  kept phases.Release w store (s, t, slots, was, some, stand, changes, t_is, is, recorded, forgotten, spare) makes =
+      subst (λ (xs : ListOf StoreChange). KeepsNeeded now xs m.store) (sym changes)
+      (keeps_freed now slots m.store store (subst (λ (xs : ListOf StoreChange). Makes xs m.store store) changes makes) (fewer slots (spare tt)))
+  kept phase w store goes makes = absurd goes
 
   -- ---- what is to be written then
 
@@ -193,7 +207,7 @@ module _ (percent : ℕ) (now : Found (ListOf ℕ)) (opened : Store) (m : FileMa
       filled_by w next t is (takes_all g.slot g.header.kind _ _ _ g.takes (was_filled phases.Copy s was))
   filled_so phases.Flush w (s, t, kind, segments, was, one, keys, t_is, is, recorded, forgotten, copies) =
       nothing w (ap filled_at is ∙ ap (λ (x : Sweep). x.filled) t_is)
-  filled_so phases.Release w (s, t, id, slot, rest, was, ready, one, header, t_is, is, recorded, forgotten, spare) =
+  filled_so phases.Release w (s, t, slots, was, some, stand, changes, t_is, is, recorded, forgotten, spare) =
       filled_by w _ t is (λ key has. was_filled phases.Release s was key (subst (λ (x : Sweep). Contains x.filled key) t_is has))
   filled_so phase w goes = absurd goes
 
@@ -206,7 +220,7 @@ module _ (percent : ℕ) (now : Found (ListOf ℕ)) (opened : Store) (m : FileMa
   of_sweep phases.Select w (was, all, is, (recorded, none, forgotten)) = none_changed w none
   of_sweep phases.Copy w goes = none_changed w goes.6
   of_sweep phases.Flush w goes = subst (AllByRecursion IsOfSweep) (sym goes.5) (tt, tt)
-  of_sweep phases.Release w goes = subst (AllByRecursion IsOfSweep) (sym goes.7) (tt, tt)
+  of_sweep phases.Release w goes = subst (AllByRecursion IsOfSweep) (sym goes.6) (all_of_sweep goes.2)
   of_sweep phase w goes = absurd goes
 
   -- what it recorded by then
@@ -250,7 +264,7 @@ module _ (percent : ℕ) (now : Found (ListOf ℕ)) (opened : Store) (m : FileMa
       )
   records_so phases.Copy w goes = swept w phases.Copy goes.0 goes.2 goes.1 goes.3 goes.4 goes.5
   records_so phases.Flush w goes = swept w phases.Flush goes.0 _ goes.1 goes.4 goes.8 goes.9
-  records_so phases.Release w goes = swept w phases.Release goes.0 _ goes.1 goes.5 goes.10 goes.11
+  records_so phases.Release w goes = swept w phases.Release goes.0 _ goes.1 goes.3 goes.8 goes.9
   records_so phase w goes = absurd goes
 
   pub tied_on : (phase : Phase) (w : Went) (store : Store) → Goes of_files phase c m w → Makes w.changes m.store store → Tied percent now opened store (after w)
@@ -260,7 +274,7 @@ module _ (percent : ℕ) (now : Found (ListOf ℕ)) (opened : Store) (m : FileMa
         sweeps = record {
           each = each_then c.changes w.changes tied.sweeps.each (of_sweep phase w goes);
           makes = makes_then c.changes w.changes opened m.store store tied.sweeps.makes makes;
-          keeps = keeps_then now c.changes w.changes opened m.store tied.sweeps.makes tied.sweeps.keeps (kept phase w goes);
+          keeps = keeps_then now c.changes w.changes opened m.store tied.sweeps.makes tied.sweeps.keeps (kept phase w store goes makes);
         };
         percent_is = tied.percent_is;
         snapshot_is = tied.snapshot_is;

@@ -1,6 +1,6 @@
 -- The steps of a collection (docs/MODEL.md, 'Collection'). By `v.Known` what they say of containers is said only where the disk tells its
 -- content.
-use Rattle.std.specs.Prelude.{◌≡◌, ◌≢◌, ◌⊎◌, ℕ, suc, zero, ◌+◌, ◌*◌, ◌==◌, ◌<◌, ◌≤◌, Bool, true, false, List, [], ◌∷◌, ◌++◌, get_or, length, nat_lt, if◌then◌else◌, slice_get, drop, take, Contains, Option, Some, None}
+use Rattle.std.specs.Prelude.{◌≡◌, ◌≢◌, ◌⊎◌, ℕ, suc, zero, ◌+◌, ◌*◌, ◌==◌, ◌<◌, ◌≤◌, Bool, true, false, List, [], ◌∷◌, ◌++◌, get_or, length, map, nat_lt, if◌then◌else◌, slice_get, drop, take, Contains, Option, Some, None}
 use Rattle.std.specs.FinMap as finite
 use Rattle.std.specs.List.{AllByRecursion}
 use Rattle.base_model.specs.Bytes.{byte_at}
@@ -15,7 +15,7 @@ use Rattle.gc_select.specs.declared.liveness.ContainerLiveness.{ContainerLivenes
 use Rattle.gc_select.specs.Selecting.{ids_of, selected, sources_of}
 use Rattle.refusals.specs.declared.refusal.Phase.{Phase}
 use Rattle.refusals.specs.declared.refusal.Phase.TheVariants.{Copy, End, Filter, Flush, Mark, Release, Select}
-use Rattle.store_model.specs.Freeing.{with_freed}
+use Rattle.store_model.specs.Freeing.{without_some}
 use Rattle.store_model.specs.Image.{Store}
 use Rattle.store_model.specs.Indexing.{entry_key}
 use Rattle.store_model.specs.Needed.{Needs}
@@ -24,6 +24,7 @@ use Rattle.store_model.specs.Slots.{Copy as KeyCopy, newest, place_of}
 use Rattle.store_model.specs.Steps.{CanChange, FlushContainer, FreeContainer, StoreChange, changed, with_sealed}
 use Rattle.store_machine.specs.Machine.{Collection, Machine, Stage, Marking, Recording, Sweeping, Sweep}
 use Rattle.store_machine.specs.Needs.{HasCopy, IndexHas, IsNeeded, NeededSince, forgotten_beside, keys_kept, keys_of, values_read}
+use Rattle.store_machine.specs.Offers.{some_marks}
 use Rattle.store_machine.specs.Values.{Values}
 
 -- ---- counts
@@ -81,8 +82,8 @@ abbrev pub is_of_kind : List ℕ → Option Kind → Bool
 is_of_kind key None = false
 is_of_kind key (Some kind) = byte_at 0 key == kind_byte kind
 
--- What comes next in a sweep of these sources: one that is ready is given back. Where none is, the next source is copied, if nothing is to
--- be written, or segments of its kind; else that is written.
+-- What comes next in a sweep of these sources: those that are ready are given back. Where none is, the next source is copied, if nothing is
+-- to be written, or segments of its kind; else that is written.
 abbrev pub next_by : List (Option HeaderValue) → List ℕ → (source : ℕ) → (ready : List ℕ) (filled : List (List ℕ)) → Phase
 next_by held sources source (id ∷ ids) filled = Release
 next_by held sources source [] [] = if nat_lt source (length sources) then Copy else End
@@ -144,6 +145,19 @@ HasNoRoom held keys count = (MOST_ENTRIES ≤ length keys) ⊎ (DATA_BYTES < byt
 abbrev pub IsCopyOf : {V : Type 0} → Collection V → Store → Kind → Segment → Type 0
 IsCopyOf c store kind x =
     ¬ (Contains (keys_written c.changes) (segment_key kind x)) × HasCopy store (record { kind = kind; segment = x })
+
+-- ---- the sources that are given back
+
+-- the containers of these ids are in these slots, one by one
+abbrev pub StandIn : List (Option HeaderValue) → List ℕ → List ℕ → Type 0
+StandIn held [] [] = Unit {0}
+StandIn held (id ∷ ids) (slot ∷ slots) =
+    ((header : HeaderValue) × (slice_get held slot ≡ Some (Some header)) × (header.id ≡ id)) × StandIn held ids slots
+StandIn held ids slots = ⊥
+
+-- the stores without some of the containers in these slots, whichever, but one at least
+abbrev pub stores_without_some : List ℕ → Store → List Store
+stores_without_some slots store = map (λ marks. without_some marks slots store) (some_marks (length slots))
 
 -- ---- what a copying step goes over
 
@@ -255,13 +269,13 @@ module _ {V R : Type 0} (v : Values V R) where
       × (w.forgotten ≡ forgotten_beside s.filled m.forgotten)
       × (v.Known → AllByRecursion (IsCopyOf c m.store kind) segments)
 
-  -- The first source that is ready is given back: it holds the newest copy of no key that is needed, or was since the collection began.
+  -- All sources that are ready are given back: each holds the newest copy of no key that is needed, or was since the collection began.
   abbrev pub Releases : Collection V → Machine V R → Went → Type 0
-  Releases c m w = (s t : Sweep) × (id slot : ℕ) × (rest : List ℕ) × (c.stage ≡ Sweeping Release s) × (s.ready ≡ id ∷ rest)
-      × (w.changes ≡ FreeContainer slot ∷ [])
-      × ((header : HeaderValue) × (slice_get m.store.held slot ≡ Some (Some header)) × (header.id ≡ id))
-      × (t ≡ record s { ready = rest }) × (w.stage ≡ Sweeping (next_of m.store.held (sources_in c) t) t)
-      × (w.recorded ≡ c.recorded) × (w.forgotten ≡ m.forgotten) × (v.Known → IsSpare (IsNeeded v m) m.store.held slot)
+  Releases c m w = (s t : Sweep) × (slots : List ℕ) × (c.stage ≡ Sweeping Release s) × (s.ready ≢ [])
+      × StandIn m.store.held s.ready slots × (w.changes ≡ map FreeContainer slots)
+      × (t ≡ record s { ready = [] }) × (w.stage ≡ Sweeping (next_of m.store.held (sources_in c) t) t)
+      × (w.recorded ≡ c.recorded) × (w.forgotten ≡ m.forgotten)
+      × (v.Known → AllByRecursion (IsSpare (IsNeeded v m) m.store.held) slots)
 
   abbrev pub Goes : Phase → Collection V → Machine V R → Went → Type 0
   Goes Mark c m w = Marks c m w
@@ -287,19 +301,17 @@ module _ {V R : Type 0} (v : Values V R) where
     pub copies : v.Known → AllByRecursion (IsCopyOf c m.store kind) segments
     pub stores_are : stores ≡ with_sealed (suc m.last_id) kind segments m.store ∷ []
 
-  -- The first source that is ready may be given back.
+  -- Some of the sources that are ready may be given back, whichever, but one at least.
   pub record BreaksRelease (m : Machine V R) (stores : List Store) : Type 0 where
     pub c : Collection V
     pub ran : m.collection ≡ Some c
     pub s : Sweep
     pub stage_is : c.stage ≡ Sweeping Release s
-    pub slot : ℕ
-    pub header : HeaderValue
-    pub there : slice_get m.store.held slot ≡ Some (Some header)
-    pub rest : List ℕ
-    pub ready_is : s.ready ≡ header.id ∷ rest
-    pub spare : v.Known → IsSpare (IsNeeded v m) m.store.held slot
-    pub stores_are : stores ≡ with_freed slot m.store ∷ []
+    pub some : s.ready ≢ []
+    pub slots : List ℕ
+    pub stand : StandIn m.store.held s.ready slots
+    pub spare : v.Known → AllByRecursion (IsSpare (IsNeeded v m) m.store.held) slots
+    pub stores_are : stores ≡ stores_without_some slots m.store
 
   -- A copying step breaks off by its change of an index that lies on the disk.
   abbrev pub MayBreak : Machine V R → List Store → Type 0

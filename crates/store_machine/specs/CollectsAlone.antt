@@ -116,12 +116,12 @@ pub record HasSwept (percent freed copied : ℕ) (m n : FileMachine) (opened : S
   pub runs : n.state ≡ Running
   pub none_runs : n.collection ≡ None
 
--- A write failed: the machine is stopped, by what the change that was due would have made of its store.
+-- A write failed: the machine is stopped, by what the changes that were due, or some of them, would have made of its store.
 abbrev pub HasBroken : FileMachine → Type 0
 HasBroken n = (before : FileMachine) × (stores : ListOf Store) × (n ≡ stopped None stores before) × MayBreak of_files before stores
 
--- It came so far: this was changed until then; and only where a write failed the machine is stopped, by that store, or one that the change
--- would have made, and fewer slots may be closed.
+-- It came so far: this was changed until then; and only where a write failed the machine is stopped, by that store, or one that the changes
+-- that were due, or some of them, would have made, and fewer slots may be closed.
 pub record SweptSoFar (rs : ListOf Replied) (m n : FileMachine) (opened : Store) : Type 0 where
   pub changes : ListOf StoreChange
   pub sweeps : Sweeps m.now changes opened n.store

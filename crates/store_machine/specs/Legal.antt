@@ -6,7 +6,7 @@ use Rattle.actor_parts.specs.Offers.{IsOffer, sealed_of}
 use Rattle.actor_parts.specs.PinMap.{PinMap}
 use Rattle.actor_parts.specs.Segments.{first_unpinned, pin_of}
 use Rattle.container_meta.specs.Segments.{Contents, KindSegment, segment_key}
-use Rattle.disk_format.specs.Cells.{Change, IsName, Root}
+use Rattle.disk_format.specs.Cells.{Change, IsName}
 use Rattle.disk_format.specs.Cells.Change.{Put, Delete as Gone}
 use Rattle.disk_format.specs.Layout.{half_cells}
 use Rattle.disk_format.specs.declared.numbers.TheConstants.{LAST_ID, MOST_NAMES, RESERVE}
@@ -270,7 +270,7 @@ module _ {V R : Type 0} (v : Values V R) where
   RefusesRead a refusal m n = (value : V) × (rest after : R) × (part_in m a ≡ Reading value rest) × v.Stays rest refusal after
       × (n ≡ put_at m a (Reading value after))
 
-  -- a container is given back without any memory
+  -- containers are given back without any memory
   abbrev pub MayLack : Store → Option (Collection V) → Type 0
   MayLack store collection = (phase : Phase) × IsCollecting phase store collection × (phase ≢ phases.Release)
 

@@ -40,13 +40,13 @@ placed last (c ∷ cs) store =
     p ∷ placed (suc last) cs (with_placed p store)
 
 -- the marks of some of so many, whichever, but one at least
-abbrev pub marks_of : ℕ → List (List Bool)
-marks_of zero = []
-marks_of (suc n) = (true ∷ []) ∷ map (λ marks. true ∷ marks) (marks_of n) ++ map (λ marks. false ∷ marks) (marks_of n)
+abbrev pub some_marks : ℕ → List (List Bool)
+some_marks zero = []
+some_marks (suc n) = (true ∷ []) ∷ map (λ marks. true ∷ marks) (some_marks n) ++ map (λ marks. false ∷ marks) (some_marks n)
 
 -- the stores with some of them
 abbrev pub stores_with_some : ℕ → List Contents → Store → List Store
-stores_with_some last cs store = map (λ marks. with_some marks (placed last cs store) store) (marks_of (length cs))
+stores_with_some last cs store = map (λ marks. with_some marks (placed last cs store) store) (some_marks (length cs))
 
 -- a header of one of them
 abbrev pub IsHeaderOfOne : ℕ → List Contents → HeaderValue → Type 0

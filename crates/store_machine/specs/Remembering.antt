@@ -2,7 +2,7 @@
 -- Collecting.antt and Opening.antt that says more of files, in their order, with what it says more. A row that is not here says as much of
 -- roots as of files; so do an opened read and its end, by the names and the rests that Forgetting.antt ties. It is said of the machine of
 -- files, m, before the step; and of that of roots after it, t, only where a row speaks of what the step made.
-use Rattle.std.specs.Prelude.{◌≡◌, ℕ, suc, ◌≤◌, List, [], ◌∷◌, ◌++◌, get_or, length, take, Contains, Some, None, Result, Ok, Err}
+use Rattle.std.specs.Prelude.{◌≡◌, ℕ, suc, ◌≤◌, List, [], ◌∷◌, ◌++◌, get_or, length, map, take, Contains, Some, None, Result, Ok, Err}
 use Rattle.std.specs.FinMap as finite
 use Rattle.std.specs.List.{AllByRecursion}
 use Rattle.container_meta.specs.declared.kind.Kind.{Kind}
@@ -55,7 +55,7 @@ abbrev pub IsReady : Collection (List ℕ) → Sweep → Sweep → Type 0
 IsReady c s t = t.source ≡ suc s.source → t.filled ≡ s.filled → t.ready ≡ get_or (sources_in c) s.source 0 ∷ []
 
 -- What was recorded of a container counts what is needed; a copying step took what is needed of its source; what was written are copies;
--- and the container that was given back holds the newest copy of nothing that is needed.
+-- and each container that was given back holds the newest copy of nothing that is needed.
 abbrev pub AddsToPhase : Phase → Collection (List ℕ) → Collection Root → FileMachine → RootMachine → Type 0
 AddsToPhase phases.Filter c d m t =
     (one : ContainerLiveness) → d.recorded ≡ c.recorded ++ one ∷ [] → IsRecordOf of_files c m.store one
@@ -64,7 +64,8 @@ AddsToPhase phases.Copy c d m t = (before after : Sweep) (next : Phase) → c.st
 AddsToPhase phases.Flush c d m t = (id : ℕ) (kind : Kind) (segments : List Segment)
     → d.changes ≡ c.changes ++ FlushContainer id kind segments ∷ [] → AllByRecursion (IsCopyOf c m.store kind) segments
 AddsToPhase phases.Release c d m t =
-    (slot : ℕ) → d.changes ≡ c.changes ++ FreeContainer slot ∷ [] → IsSpare (IsNeeded of_files m) m.store.held slot
+    (slots : List ℕ) → d.changes ≡ c.changes ++ map FreeContainer slots
+    → AllByRecursion (IsSpare (IsNeeded of_files m) m.store.held) slots
 AddsToPhase phase c d m t = Unit {0}
 
 abbrev pub AddsToStep : Phase → FileMachine → RootMachine → Type 0

@@ -1,5 +1,5 @@
 -- A command answers by the map where its lines say how it ended, and what was written.
-use Rattle.backup_engine.proofs.Prelude.{◌≡◌, ◌⊎◌, inl, inr, ℕ, IsTrue, List, [], ◌∷◌, Option, Some, Err, refl, sym, ◌∙◌, ap, subst, arith, DiskView, SinkView, SourceView, Refusal, Refused, IsIn, FileMachine, AllFollow, Lines, Replied, desk, of_files, MayStand, RunsByFiles, CommandLine, Keeps, DoesCommand, Speaks, SpeaksAs, said}
+use Rattle.backup_engine.proofs.Prelude.{◌≡◌, ◌⊎◌, inl, inr, ℕ, IsTrue, List, [], ◌∷◌, Option, Some, Err, refl, sym, ◌∙◌, ap, subst, DiskView, SinkView, SourceView, Refusal, Refused, IsIn, FileMachine, AllFollow, Lines, Replied, desk, of_files, MayStand, RunsByFiles, CommandLine, DoesCommand, Speaks, SpeaksAs, said}
 use Rattle.std.proofs.lemmas.List.{append-nil}
 use Rattle.base_model.specs.Known.{Appended, KnownWith}
 use Rattle.reply_text.specs.declared.ending.Ending.{Ending}
@@ -17,8 +17,8 @@ use Rattle.backup_engine.specs.Line as table
 use Rattle.backup_engine.specs.Line.{Collect, Delete, Format, Ingest, Restore}
 use Rattle.script_runner.specs.LinesAreFileRuns.{FileDesk}
 use Rattle.core_machine.specs.FileOpenings.{Reopens, opening}
-use Rattle.backup_engine.specs.AnswersByMap.{AnswersByMap, AnswersEachCall, ComesTo, EndsAs, Gave, IsAfter, KeepsBytes, WritesRefused, WritesText, command_of}
-use Rattle.backup_engine.specs.ByFiles.{CutsAmong, RefusedByFiles, RunsEachByFiles}
+use Rattle.backup_engine.specs.AnswersByMap.{AnswersByMap, ComesTo, EndsAs, Gave, IsAfter, KeepsBytes, WritesRefused, WritesText, command_of}
+use Rattle.backup_engine.specs.ByFiles.{CutsAmong, RefusedByFiles}
 use Rattle.backup_engine.proofs.AtLines.{all_lines, all_steps, crash_by, last, ran}
 use Rattle.backup_engine.proofs.Ran.{Silent}
 use Rattle.backup_engine.specs.Seen.{devices, disk_and_sink}

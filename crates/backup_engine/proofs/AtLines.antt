@@ -1,5 +1,5 @@
 -- A call whose store was opened, as lines of a machine at rest, its opening first: what is found at their end, and on the way.
-use Rattle.backup_engine.proofs.Prelude.{◌≡◌, ◌⊎◌, inl, inr, ◌≤◌, ℕ, List, [], ◌∷◌, ◌++◌, Ok, refl, sym, subst, arith, DiskView, OpensAs, FileMachine, Lines, Replied, desk, run_of, run_on, Found, RunState, Running, Stepped, MayBeFound, of_files, IsOfFound, stored_in, Passes, passes_later, RunsByFiles, said}
+use Rattle.backup_engine.proofs.Prelude.{◌≡◌, ◌⊎◌, inl, inr, ℕ, List, [], ◌∷◌, ◌++◌, Ok, refl, sym, subst, arith, DiskView, OpensAs, FileMachine, Lines, Replied, desk, run_of, run_on, Found, RunState, Running, Stepped, MayBeFound, of_files, IsOfFound, stored_in, Passes, passes_later, RunsByFiles, said}
 use Rattle.dd_disk.specs.View.{CrashLeaves}
 use Rattle.script_lines.specs.Grammar as lines
 use Rattle.script_lines.specs.ReplyValue as replies

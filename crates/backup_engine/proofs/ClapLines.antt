@@ -12,7 +12,7 @@ use Rattle.clap.proofs.OnLiterals.{clap_on_literals}
 use Rattle.clap.proofs.WalkLemmas.{walk_stopped}
 use Rattle.backup_engine.specs.Line.{Run, alone, command_of, line_by, line_of, line_with, load_of, only_one}
 use Rattle.backup_engine.specs.Line as table
-use Rattle.backup_engine.specs.Words.{line_found, load_arguments, load_matched}
+use Rattle.backup_engine.specs.Words.{load_arguments, load_matched}
 use Rattle.backup_engine.proofs.ClapWords.{AreTexts, Look, answered, long, look_of, plain, separator, short, stage, taken, unless}
 use Rattle.clap.specs.Words.{Row, Text, subcommand_name_of, subcommand_rows_of}
 use Rattle.clap.specs.declared.error.ErrorKind.{ErrorKind}

@@ -6,7 +6,7 @@ use Rattle.std.specs.Char.{encode_utf8}
 use Rattle.std.specs.Str.{encode_utf8_all}
 use Rattle.std.proofs.lemmas.Str.{IsUtf8-past_char, encodes-chars}
 use Rattle.clap.specs.Lexer.{name_and_value}
-use Rattle.clap.specs.Walk.{Held, Row, Rule, Text, Walk, arg_by_index, arg_by_long, arg_by_short, finished, has_long, has_short, idle, is_multiple, is_pending, next_position, positional_held, settled, takes_several, to_positional, walked}
+use Rattle.clap.specs.Walk.{Held, Row, Rule, Text, Walk, arg_by_index, finished, has_long, has_short, idle, is_multiple, is_pending, next_position, positional_held, settled, takes_several, to_positional, walked}
 use Rattle.clap.specs.Kinds.{or_else}
 use Rattle.clap.specs.Faults.{check_fault, defaults_fault, flags_fault, level_fault, settle_fault, turn_fault, walk_fault}
 use Rattle.clap.specs.declared.error.kind.ErrorKind.TheVariants.{UnknownArgument}

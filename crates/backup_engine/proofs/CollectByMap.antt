@@ -1,5 +1,5 @@
 -- A `collect` answers by the map, by the law of its lines; and the containers that it leaves stand byte for byte.
-use Rattle.backup_engine.proofs.Prelude.{◌≡◌, ◌⊎◌, inl, inr, ℕ, IsTrue, List, [], ◌∷◌, ◌++◌, Option, Some, None, refl, sym, ◌∙◌, ap, subst, arith, AllByRecursion, DiskView, SinkView, Refusal, Memory, DiskWrite, Sink, Refused, ReplyValue, FileMachine, MakesRoom, Replied, RunsByFiles, IsIn, IsCollect, collecting, said}
+use Rattle.backup_engine.proofs.Prelude.{◌≡◌, ◌⊎◌, inl, inr, ℕ, IsTrue, List, [], ◌∷◌, Option, Some, None, refl, sym, ◌∙◌, ap, subst, arith, AllByRecursion, DiskView, SinkView, Refusal, DiskWrite, Sink, Refused, ReplyValue, FileMachine, MakesRoom, Replied, RunsByFiles, IsIn, IsCollect, collecting, said}
 use Rattle.base_model.specs.Known.{KnownWith}
 use Rattle.reply_text.specs.declared.ending.Ending.{Ending}
 use Rattle.script_lines.specs.Grammar as lines
@@ -9,7 +9,7 @@ use Rattle.store_model.specs.Image.{Store}
 use Rattle.store_model.specs.Slots.{last_id}
 use Rattle.store_state.specs.Refused.{fails}
 use Rattle.store_machine.specs.CollectsAlone.{CollectsByMap, CollectsThrough}
-use Rattle.store_machine.specs.Commands.{EndsRefused, Lines}
+use Rattle.store_machine.specs.Commands.{EndsRefused}
 use Rattle.store_machine.specs.Machine.{Found, RunState, Running}
 use Rattle.store_machine.specs.Needs.{NamesNeed}
 use Rattle.store_machine.specs.Opening.{MayBeFound, Stands}

@@ -1,5 +1,5 @@
 -- Containers that steps of a collection left are byte for byte what they were, by what each step does to the content.
-use Rattle.backup_engine.proofs.Prelude.{both_so, ◌≡◌, ◌⊎◌, ◌≢◌, inl, inr, ◌+◌, ◌<◌, ◌≤◌, ℕ, List, [], ◌∷◌, ◌++◌, Option, Some, None, Result, Ok, Err, refl, sym, ◌∙◌, ap, subst, arith, slice_get, AllByRecursion, range, HeaderValue, slot_at, SLOT_BYTES, Refusal, DiskWrite, ReplyValue, FreesTo, HasNoGate, with_freed, Encodes, Store, FileMachine, Lines, Replied, RunState, Running, Stepped, of_files, MayStand, store_once, first_free, there_before}
+use Rattle.backup_engine.proofs.Prelude.{both_so, ◌≡◌, ◌⊎◌, ◌≢◌, inl, inr, ◌+◌, ◌<◌, ◌≤◌, ℕ, List, [], ◌∷◌, Option, Some, None, Result, Ok, Err, refl, sym, ◌∙◌, ap, subst, arith, slice_get, AllByRecursion, range, HeaderValue, slot_at, SLOT_BYTES, Refusal, DiskWrite, ReplyValue, FreesTo, HasNoGate, with_freed, Encodes, Store, FileMachine, Lines, Replied, RunState, Running, Stepped, of_files, MayStand, store_once, first_free, there_before, of_each}
 use Rattle.std.proofs.lemmas.Bool.{cases_lt}
 use Rattle.refusals.specs.declared.refusal.Phase.{Phase}
 use Rattle.refusals.specs.declared.refusal.Refusal.TheVariants as refusals
@@ -19,10 +19,12 @@ use Rattle.store_machine.specs.Legal.{ByState, Does, Legal, LegalBy, RefusesGcSt
 use Rattle.store_machine.specs.Lines.{AreDid, Line, reply_of, step_of}
 use Rattle.store_machine.specs.Opening.{Stands}
 use Rattle.store_machine.specs.Runs.{Run}
+use Rattle.store_machine.proofs.Released.{freed_makes}
 use Rattle.store_machine.proofs.Steady.{goes_last, goes_since}
 use Rattle.core_machine.specs.Bytes.{BytesOf, SameStore, Sweeps}
 use Rattle.script_runner.specs.LinesAreFileRuns.{ChangesContent, FileDesk}
 use Rattle.script_runner.specs.LinesAreRuns.{Traced}
+use Rattle.backup_engine.proofs.SweptSlots.{none_of_gone}
 
 -- ---- steps
 
@@ -77,9 +79,10 @@ module _ (a : ℕ) (m n : FileMachine) (runs : m.state ≡ Running) (old new : L
       let here : slot ≡ first_free m.store.held = free ∙ ap (λ (s : Store). first_free s.held) (sym same) in
       let closed = first_closed m.store.held (omega (arith, held_within m.store.held slot h was, here)) in
       (let wrong : Some None ≡ Some (Some h) = sym closed ∙ subst (λ (k : ℕ). slice_get m.store.held k ≡ Some (Some h)) here was in absurd cc))
-  swept_slot (inr (inr (freed, (is, (store, (encodes, but)))))) slot h was has =
+  swept_slot (inr (inr (gone, (makes, (store, (encodes, but)))))) slot h was has =
+      let is = freed_makes gone m.store n.store makes in
       but.rest.slots_are slot (within slot h was store encodes)
-      (λ same. (there_before freed slot h m.store.held (subst (λ (s : Store). HasContainer s slot h) is has)).0 (sym same))
+      (λ one. of_each (λ freed. freed ≢ slot) gone slot (none_of_gone gone slot h m.store (subst (λ (s : Store). HasContainer s slot h) is has)) one refl)
 
   goes_keeps : (phase : Phase) → GoesOn of_files phase m n → Sweeps m n old new → StepKeeps m n old new
   goes_keeps phase goes bytes = record {

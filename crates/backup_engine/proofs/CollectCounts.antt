@@ -1,5 +1,5 @@
 -- The snapshot of a collection, how many containers it gave back and how many copies it wrote, after a step of it.
-use Rattle.backup_engine.proofs.Prelude.{◌≡◌, inl, inr, ◌+◌, ℕ, List, length, Option, Some, None, refl, sym, ◌∙◌, ap, subst, arith, Kind, Segment, Collection, Stage, Mark, Filter, Select, filter_at, is_old_slot, Moment, StepsTo, phase_at, Flush, Release, End, Phase, SlotTable}
+use Rattle.backup_engine.proofs.Prelude.{◌≡◌, inl, inr, ◌+◌, ℕ, List, length, Option, Some, None, refl, sym, ◌∙◌, ap, subst, arith, Kind, Segment, Collection, Stage, Mark, Filter, Select, filter_at, is_old_slot, Moment, StepsTo, phase_at, Flush, Release, End, SlotTable}
 use Rattle.container_meta.specs.Segments.{Contents}
 use Rattle.copy_forward.specs.declared.plan.Plan.{Plan}
 use Rattle.copy_forward.specs.Copying.{PlansSource, copy_task}
@@ -11,7 +11,6 @@ use Rattle.gc_sweep.specs.declared.sweep.Next.{Next}
 use Rattle.gc_sweep.specs.declared.sweep.Next.TheVariants.{Copy}
 use Rattle.gc_sweep.specs.declared.sweep.Sweep.{Sweep as SweepValue}
 use Rattle.gc_sweep.specs.Copying.{CopiesSource, IsFilling, TakesBy, copy_step}
-use Rattle.refusals.specs.declared.refusal.Phase.TheVariants as phases
 
 -- So many sources were given back, and so many segments copied and written: of those that were copied the others are to be written. None of
 -- either before it sweeps.
@@ -20,9 +19,9 @@ HasCounted Sweep s freed copied = (s.freed ≡ freed) × (s.copied ≡ copied + 
 HasCounted stage s freed copied = (freed ≡ 0) × (copied ≡ 0)
 
 -- how many containers a step gives back
-abbrev pub freed_by : Phase → ℕ
-freed_by phases.Release = 1
-freed_by phase = 0
+abbrev pub freed_by : Stage → Next → SweepValue → ℕ
+freed_by Sweep (Release source entry) s = length s.ready.items
+freed_by stage next s = 0
 
 -- how many copies a step writes
 abbrev pub copies_by : Stage → Next → SweepValue → ℕ
@@ -53,7 +52,7 @@ module _ (old new : Moment) (freed copied : ℕ) where
   after = new.collection
 
   abbrev Counted : Stage → Next → Type 0
-  Counted stage next = HasCounted after.stage after.sweep (freed + freed_by (phase_at stage next)) (copied + copies_by stage next before.sweep)
+  Counted stage next = HasCounted after.stage after.sweep (freed + freed_by stage next before.sweep) (copied + copies_by stage next before.sweep)
 
   -- the sources are still to be chosen
   still_none : (stage : Stage) → after.stage ≡ stage → IsToChoose stage → freed ≡ 0 → copied ≡ 0 → HasCounted after.stage after.sweep (freed + 0) (copied + 0)
@@ -116,6 +115,6 @@ module _ (old new : Moment) (freed copied : ℕ) where
       sweeping 0 (length before.sweep.buffer.segments) (ap (λ (c : Collection). c.stage) steps.sweeps ∙ is) (omega (arith, steps.flushed.freed_is, counted.0))
       (omega (arith, steps.flushed.copied_is, counted.1, ap (λ (l : List Segment). length l) steps.flushed.emptied))
   counted_on Sweep (Release source entry) is next_is counted steps other =
-      sweeping 1 0 (ap (λ (c : Collection). c.stage) steps.1 ∙ is) (omega (arith, steps.0.freed_is, counted.0))
+      sweeping (length before.sweep.ready.items) 0 (ap (λ (c : Collection). c.stage) steps.1 ∙ is) (omega (arith, steps.0.freed_is, counted.0))
       (omega (arith, steps.0.copied_is, counted.1, ap (λ (c : Contents). length c.segments) steps.0.buffer_is))
   counted_on Sweep End is next_is counted steps other = absurd (other refl)

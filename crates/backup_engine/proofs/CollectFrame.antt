@@ -1,6 +1,6 @@
 -- What the steps of a collection leave of the bytes, whatever they are: all before the end of the slots, but the gates of containers that it
 -- gave back, and closed slots that it filled.
-use Rattle.backup_engine.proofs.Prelude.{each_so, ◌≡◌, ℕ, List, [], ◌∷◌, Option, Some, Result, Ok, refl, sym, ◌∙◌, subst, AllByRecursion, Answer, PlaceMap, ending, CrashLeaves, DiskView, leaves_on, leaves_weaker, reads_here, size_of, Touches, Collection, Stage, Mark, Filter, Select, SweepStage, Flush, Release, End, slot_in_turn, Phase, Refusal, CollectionRun, Collects, Store, blames, TouchesBy, Steps, HadContainer, CoreState, MayFill, SameButSlotsOf}
+use Rattle.backup_engine.proofs.Prelude.{each_so, ◌≡◌, ℕ, List, [], ◌∷◌, Option, Some, Result, Ok, refl, sym, ◌∙◌, subst, AllByRecursion, Answer, PlaceMap, ending, CrashLeaves, DiskView, leaves_on, leaves_weaker, reads_here, size_of, Touches, Collection, Stage, Mark, Filter, Select, SweepStage, Flush, Release, End, Phase, Refusal, CollectionRun, Collects, Store, blames, TouchesBy, Steps, HadContainer, CoreState, MayFill, SameButSlotsOf, ◌++◌, both_so}
 use Rattle.actor_parts.specs.declared.step.Answer.TheVariants as answers
 use Rattle.dd_disk.proofs.Later.{reads_leave}
 use Rattle.gc_sweep.specs.declared.sweep.Next.{Next}
@@ -53,13 +53,15 @@ module _ (s : Store) (index : PlaceMap) (v : DiskView) (sized : v.size ≡ size_
       may = (may_fill_so s index v sized C state old so, so.slots.may);
       same = same;
     }
-    but_so SweepStage (Release source entry) is next_is c same = record {
-      freed = slot_in_turn collection.sweep ∷ so.freed;
-      had = (had_so s index v sized C state old so source entry is next_is, so.slots.had);
-      filled = so.filled;
-      may = each_so (MayFill s so.freed) (MayFill s (slot_in_turn collection.sweep ∷ so.freed)) so.filled (may_more s (slot_in_turn collection.sweep) so.freed) so.slots.may;
-      same = same;
-    }
+    but_so SweepStage (Release source entry) is next_is c same =
+        let gone : List ℕ = collection.sweep.ready.items in
+        record {
+          freed = gone ++ so.freed;
+          had = both_so (HadContainer s) gone so.freed (had_so s index v sized C state old so is) so.slots.had;
+          filled = so.filled;
+          may = each_so (MayFill s so.freed) (MayFill s (gone ++ so.freed)) so.filled (may_more s gone so.freed) so.slots.may;
+          same = same;
+        }
     but_so SweepStage End is next_is c same = record { freed = so.freed; had = so.slots.had; filled = so.filled; may = so.slots.may; same = same }
 
     -- however it ends

@@ -1,5 +1,5 @@
 -- The steps of a collection, one after the other, whatever the disk holds: what they changed of the store so far.
-use Rattle.backup_engine.proofs.Prelude.{both_so, ◌≡◌, ◌≢◌, inl, inr, ◌+◌, ◌<◌, ◌≤◌, ℕ, List, [], ◌∷◌, ◌++◌, length, get_or, Option, Some, None, Result, Ok, refl, sym, ◌∙◌, ap, subst, arith, Contains, slice_get, AllByRecursion, Contains-append_right, Contains-get_or, Answer, PlaceMap, Segment, HeaderValue, header_of, DiskView, IsDurable, IsLater, OnlyReads, Both, later_here, later_on, size_of, slot_at, filter_at, Moment, StepsTo, Touches, phase_at, IsUnderWay, Collection, Stage, Mark, Filter, Select, SweepStage, Flush, Release, End, slot_in_turn, HasNext, Phase, Refusal, CollectionRun, Collects, with_freed, IsValidFor, Store, HasFree, first_free, last_id, FlushContainer, FreeContainer, StoreChange, with_sealed, some_same, first_closed, some_free, Changes, SameBefore, Represents, Runs, Tables, GoesOn, TouchesBy, at_moment, Steps, HadContainer, copied_in, freed_in, ChangesTo, CoreState, Event, IsRunning, step_runs, at_stage, FreesUpTo, written_in, MayFill, SameButSlotsOf}
+use Rattle.backup_engine.proofs.Prelude.{both_so, ◌≡◌, inl, inr, ◌+◌, ◌<◌, ◌≤◌, ℕ, List, [], ◌∷◌, ◌++◌, length, get_or, Option, Some, None, Result, Ok, refl, sym, ◌∙◌, ap, subst, arith, AllByRecursion, Contains-append_right, Contains-get_or, Answer, PlaceMap, Segment, HeaderValue, header_of, DiskView, IsDurable, IsLater, OnlyReads, Both, later_here, later_on, size_of, slot_at, filter_at, Moment, StepsTo, Touches, phase_at, IsUnderWay, Collection, Stage, Mark, Filter, Select, SweepStage, Flush, Release, End, HasNext, Phase, Refusal, CollectionRun, Collects, IsValidFor, Store, HasFree, first_free, last_id, FlushContainer, FreeContainer, StoreChange, with_sealed, some_same, first_closed, some_free, Changes, SameBefore, Represents, Runs, Tables, GoesOn, TouchesBy, at_moment, Steps, HadContainer, copied_in, freed_in, ChangesTo, CoreState, Event, IsRunning, step_runs, at_stage, FreesUpTo, written_in, MayFill, SameButSlotsOf, map, with_all_freed}
 use Rattle.actor_parts.specs.declared.step.Answer.TheVariants as answers
 use Rattle.actor_parts.specs.StepValue as asked
 use Rattle.dd_disk.specs.Ending.{Ending}
@@ -11,24 +11,31 @@ use Rattle.gc_sweep.specs.declared.sweep.Next.TheVariants.{Copy}
 use Rattle.gc_sweep.specs.declared.sweep.Sweep.{Sweep}
 use Rattle.gc_sweep.specs.Beginning.{Begins}
 use Rattle.gc_sweep.specs.UnderWay.{IsSweeping, sources_before}
+use Rattle.gc_sweep.proofs.Freed.{second_apart}
 use Rattle.gc_sweep.proofs.InSlots.{IsSourceIn, stands_in}
 use Rattle.backup_engine.proofs.CollectCounts.{HasCounted, copies_by, counted_on, freed_by, snapshot_on}
+use Rattle.std.specs.List.{IsDistinct}
+use Rattle.std.specs.Prelude.{nat_eq}
+use Rattle.std.proofs.lemmas.List.Elements.{recursion_from_All}
+use Rattle.store_model.specs.Steps.{CanFree}
 use Rattle.store_model.proofs.Free.{same_free}
-use Rattle.store_model.proofs.Freed.{valid_freed}
+use Rattle.store_model.proofs.FreedAll.{valid_all}
+use Rattle.store_model.proofs.FreedFiles.{same_but_held}
 use Rattle.store_model.proofs.Valid.{valid_sealed}
 use Rattle.store_state.specs.Settled.{IsSettled}
 use Rattle.store_core.specs.Collecting.{HasEnded}
 use Rattle.store_core.specs.State.{IsUnderWayIn}
 use Rattle.store_core.proofs.CoreRuns.{running_step}
+use Rattle.store_core.proofs.GcSteps.{frees_each}
 use Rattle.store_core.proofs.KeepingFiles.{chain_on}
 use Rattle.store_core.proofs.Opened.{durable_settled}
 use Rattle.backup_engine.specs.Collected.{IsOfCollection}
-use Rattle.backup_engine.proofs.EarlierFrees.{frees_on}
+use Rattle.backup_engine.proofs.EarlierFrees.{IsEarlier, frees_earlier, frees_on, new_earlier}
 use Rattle.backup_engine.proofs.FirstActor.{up_of}
-use Rattle.backup_engine.proofs.NewContainers.{new_few, new_in, new_with, new_without}
+use Rattle.backup_engine.proofs.NewContainers.{new_few, new_in, new_with}
 use Rattle.backup_engine.proofs.Returned.{one_later}
 use Rattle.backup_engine.proofs.SweptBytes.{IsFramed, filled_with, freed_with, stage_so}
-use Rattle.backup_engine.proofs.SweptSlots.{SweptSlots, copied-append, freed-append, slots_filled, slots_freed, written-append}
+use Rattle.backup_engine.proofs.SweptSlots.{GivesThese, SweptSlots, copied-append, freed-append, gives_these, slots_filled, slots_freed, written-append}
 
 -- a step that did something was not at the end
 no_end : (stage : Stage) (next : Next) (freed copied : ℕ) (phase : Phase) → answer_at stage next freed copied ≡ Did phase → phase_at stage next ≡ phase_at SweepStage End → ⊥
@@ -53,12 +60,6 @@ none_counted (Filter slot) t s begins = (refl, refl)
 none_counted Select t s begins = (refl, refl)
 none_counted SweepStage t s begins = (begins.none_freed, omega (arith, begins.none_copied, ap (λ (l : List Segment). length l) begins.empty))
 
--- ---- the slot of a source that is ready
-
-some_ready : (xs : List ℕ) → xs ≢ [] → Contains xs (get_or xs 0 0)
-some_ready [] some = absurd (some refl)
-some_ready (x ∷ xs) some = Contains-get_or (x ∷ xs) 0 0 (omega arith)
-
 -- ---- what a step changes
 
 module _ (s after : Store) (freed filled : List ℕ) (slots : SweptSlots s after freed filled) (old new : Moment) (represents : Represents after None old.tables)
@@ -76,42 +77,46 @@ module _ (s after : Store) (freed filled : List ℕ) (slots : SweptSlots s after
         (sym represents.slots_hold.ids_are ∙ runs.represents.slots_hold.ids_are),
   )
 
-  -- The source that is given back next had its container at first.
-  module _ (source entry : ℕ) (stage_is : c.stage ≡ SweepStage) (next_is : c.sweep.next ≡ Release source entry) where
+  -- Each source that is ready had its container at first.
+  module _ (stage_is : c.stage ≡ SweepStage) where
+    abbrev ready : List ℕ
+    ready = c.sweep.ready.items
+
     sweeping : IsSweeping old.tables.held c.snapshot c.sweep
     sweeping = at_stage old.tables.held c SweepStage under stage_is
 
-    has_next : HasNext old.tables.held c.sweep (Release source entry)
-    has_next = subst (HasNext old.tables.held c.sweep) next_is sweeping.next_is
+    abbrev Stands : ℕ → Type 0
+    Stands slot = IsSourceIn after.held c.snapshot c.sweep.sources.items (sources_before c.sweep c.sweep.next) slot
 
-    abbrev turn : ℕ
-    turn = slot_in_turn c.sweep
+    of_ready : (P : ℕ → Type 0) → ((slot : ℕ) → Stands slot → P slot) → AllByRecursion P ready
+    of_ready P each = recursion_from_All P ready (λ number other within.
+        let slot : ℕ = get_or ready number other in
+        each slot (stands_in after.held old.tables.held c.snapshot c.sweep sweeping represents.slots_hold slot
+        (Contains-append_right c.sweep.waiting.items ready slot (Contains-get_or ready number other within))))
 
-    stands : IsSourceIn after.held c.snapshot c.sweep.sources.items (sources_before c.sweep c.sweep.next) turn
-    stands =
-        stands_in after.held old.tables.held c.snapshot c.sweep sweeping represents.slots_hold turn
-        (Contains-append_right c.sweep.waiting.items c.sweep.ready.items turn (some_ready c.sweep.ready.items has_next.0))
-
-    pub had_in_turn : HadContainer s turn
-    had_in_turn = elim (slots.there turn stands.header stands.there) [
+    pub had_in_turn : AllByRecursion (HadContainer s) ready
+    had_in_turn = of_ready (HadContainer s) (λ slot stands. elim (slots.there slot stands.header stands.there) [
       | inl had ↦ (stands.header, had)
       | inr later ↦ absurd (omega (arith, later, stands.old, began))
-    ]
+    ])
 
     -- under an id of before
-    pub old_in_turn : (h : HeaderValue) → slice_get after.held turn ≡ Some (Some h) → h.id ≤ last_id s.held
-    old_in_turn h there =
+    old_in_turn : AllByRecursion (IsEarlier (last_id s.held) after) ready
+    old_in_turn = of_ready (IsEarlier (last_id s.held) after) (λ slot stands h there.
         let same : h ≡ stands.header = some_same h stands.header (some_same (Some h) (Some stands.header) (sym there ∙ stands.there)) in
-        omega (arith, stands.old, began, ap (λ (x : HeaderValue). x.id) same)
+        omega (arith, stands.old, began, ap (λ (x : HeaderValue). x.id) same))
 
-    pub free_in_turn : (h : HeaderValue) × (slice_get after.held turn ≡ Some (Some h))
-    free_in_turn = (stands.header, stands.there)
+    free_in_turn : AllByRecursion (λ slot. CanFree slot after) ready
+    free_in_turn = of_ready (λ slot. CanFree slot after) (λ slot stands. (stands.header, stands.there))
+
+    apart_in_turn : IsDistinct nat_eq ready
+    apart_in_turn = second_apart c.sweep.waiting.items ready sweeping.apart
 
   -- what a step of a stage changes
   pub record Changed (stage : Stage) (next : Next) : Type 0 where
     pub changes : List StoreChange
     pub each : AllByRecursion IsOfCollection changes
-    pub freed_many : freed_in changes ≡ freed_by (phase_at stage next)
+    pub freed_many : freed_in changes ≡ freed_by stage next c.sweep
     pub copied_many : copied_in changes ≡ copies_by stage next c.sweep
     pub store_now : Store
     pub chain : ChangesTo changes after store_now
@@ -127,7 +132,7 @@ module _ (s after : Store) (freed filled : List ℕ) (slots : SweptSlots s after
     pub new_now : new_in (last_id s.held) store_now.held ≡ new_in (last_id s.held) after.held + written_in changes
     pub frees_now : FreesUpTo (last_id s.held) changes after
 
-  changed_none : (stage : Stage) (next : Next) → freed_by (phase_at stage next) ≡ 0 → copies_by stage next c.sweep ≡ 0 → freed_with stage next c.sweep freed ≡ freed →
+  changed_none : (stage : Stage) (next : Next) → freed_by stage next c.sweep ≡ 0 → copies_by stage next c.sweep ≡ 0 → freed_with stage next c.sweep freed ≡ freed →
       filled_with stage next after filled ≡ filled
       → new.tables ≡ old.tables → Changed stage next
   changed_none stage next none_freed none_copied freed_same filled_same same = record {
@@ -179,26 +184,26 @@ module _ (s after : Store) (freed filled : List ℕ) (slots : SweptSlots s after
         frees_now = tt;
       }
   changed_by SweepStage (Release source entry) is next_is gives =
-      let slot : ℕ = slot_in_turn c.sweep in
+      let gone : List ℕ = c.sweep.ready.items in
+      let these : GivesThese gone = gives_these gone in
       record {
-        changes = FreeContainer slot ∷ [];
-        each = (tt, tt);
-        freed_many = refl;
-        copied_many = refl;
-        store_now = with_freed slot after;
-        chain = (free_in_turn source entry is next_is, refl);
+        changes = map FreeContainer gone;
+        each = these.each;
+        freed_many = these.freed;
+        copied_many = these.copied;
+        store_now = with_all_freed gone after;
+        chain = frees_each gone after (with_all_freed gone after) (free_in_turn is) (apart_in_turn is) refl;
         represents_now = gives.represents after None (λ places known. absurd (let wrong = known in cc)) represents;
-        valid_now = valid_freed old.disk.size slot after valid;
-        slots_are = refl;
-        freed_now = slot ∷ freed;
+        valid_now = valid_all old.disk.size gone after valid;
+        slots_are = ap (λ (t : Store). t.slots) (same_but_held gone after);
+        freed_now = gone ++ freed;
         filled_now = filled;
         freed_is = refl;
         filled_is = refl;
-        swept = slots_freed s after freed filled slots slot (had_in_turn source entry is next_is);
-        ids_now = omega (arith, gives.last_stays);
-        new_now = let in_turn = stands source entry is next_is in omega
-            (arith, new_without (last_id s.held) slot in_turn.header after.held in_turn.there (omega (arith, in_turn.old, began)));
-        frees_now = (old_in_turn source entry is next_is, tt);
+        swept = slots_freed s after freed filled slots gone (had_in_turn is);
+        ids_now = omega (arith, gives.last_stays, these.written);
+        new_now = omega (arith, new_earlier (last_id s.held) gone after (old_in_turn is), these.written);
+        frees_now = frees_earlier (last_id s.held) gone after (old_in_turn is);
       }
   changed_by SweepStage End is next_is same = changed_none SweepStage End refl refl refl refl same
 
@@ -354,7 +359,7 @@ module _ (s : Store) (index : PlaceMap) (v : DiskView) (sized : v.size ≡ size_
     pub few_so : length s.held ≡ s.slots → written_in so.changes < length s.held
     few_so many = omega (arith, many, so.valid.many, so.slots_are, so.written_new, new_few (last_id s.held) so.after.held, free_so)
 
-    pub had_so : (source entry : ℕ) → so.collection.stage ≡ SweepStage → so.collection.sweep.next ≡ Release source entry → HadContainer s (slot_in_turn so.collection.sweep)
+    pub had_so : so.collection.stage ≡ SweepStage → AllByRecursion (HadContainer s) so.collection.sweep.ready.items
     had_so =
         had_in_turn s so.after so.freed so.filled so.slots (at_moment (state c) so.collection) (at_moment (state c) so.collection) so.represents valid_so runs_so (under_way c so)
         so.began above_so

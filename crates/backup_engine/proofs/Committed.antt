@@ -1,5 +1,5 @@
 -- The name of a file that a session was fed is given its root.
-use Rattle.backup_engine.proofs.Prelude.{◌≡◌, ◌≤◌, ◌∙◌, ℕ, List, [], length, Ok, Err, refl, sym, ap, subst, MOST_FILE, Root, KindSegment, Answer, StepValue, Refusal, Piece, Data, Node, IsPieceOf, piece_segment, root_of, CoreStep, kept_of, CoreState, BytesAreCounted, SessionState, MayBe, opens_of, IsOneOf}
+use Rattle.backup_engine.proofs.Prelude.{◌≡◌, ◌≤◌, ◌∙◌, ℕ, List, [], length, Ok, Err, refl, sym, ap, subst, MOST_FILE, Root, KindSegment, Answer, Refusal, Piece, Data, Node, IsPieceOf, piece_segment, root_of, CoreStep, kept_of, CoreState, BytesAreCounted, SessionState, MayBe, opens_of, IsOneOf}
 use Rattle.std.proofs.Common.{append-nil}
 use Rattle.actor_parts.specs.StepValue as asked
 use Rattle.ingest_session.specs.Facts.{AllIsKept}

@@ -1,5 +1,5 @@
 -- A session that is fed a file, call by call.
-use Rattle.backup_engine.proofs.Prelude.{◌≡◌, ◌⊎◌, inl, inr, ◌∙◌, ◌≤◌, ℕ, false, List, [], ◌∷◌, ◌++◌, map, Some, None, refl, sym, ap, subst, Kind, Leaf, Tree, KindSegment, Segment, Answer, kept_of, FileEvent, CoreState, Claim, Seal, IsEnding, due_in, item_kind, History, HasHistory, IsBegun, answered, no_history, IsItem, SessionState, turn_node, told_by, in_left, in_right, IsFed, MayBe, opens_of, AreNew, Way, IsOneOf, item_is, one_item}
+use Rattle.backup_engine.proofs.Prelude.{◌≡◌, ◌⊎◌, inl, inr, ◌∙◌, ℕ, false, List, [], ◌∷◌, ◌++◌, Some, None, refl, sym, ap, subst, Kind, KindSegment, Segment, Answer, kept_of, FileEvent, CoreState, Claim, Seal, IsEnding, due_in, item_kind, History, HasHistory, IsBegun, answered, no_history, IsItem, SessionState, turn_node, told_by, in_left, in_right, IsFed, MayBe, opens_of, AreNew, Way, IsOneOf, item_is, one_item}
 use Rattle.std.proofs.Common.{append_assoc, take}
 use Rattle.container_meta.specs.Segments.{Contents}
 use Rattle.actor_parts.specs.declared.step.Answer.TheVariants as answers

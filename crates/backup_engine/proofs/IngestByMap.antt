@@ -1,5 +1,5 @@
 -- An `ingest` answers by the map, by the law of its lines.
-use Rattle.backup_engine.proofs.Prelude.{◌+◌, length, ◌≡◌, ◌⊎◌, inl, inr, ℕ, List, [], ◌∷◌, ◌++◌, Option, Some, None, refl, sym, ◌∙◌, ap, subst, Appended, DiskView, SinkView, SourceView, Refusal, Memory, Sink, Refused, stored_line, ReplyValue, FileMachine, Replied, DoesCommand, WroteReply, Digits, IsFirstOf, IsIngest, finish_lines, push_lines, pushed, refused, said}
+use Rattle.backup_engine.proofs.Prelude.{◌+◌, length, ◌≡◌, ◌⊎◌, inl, inr, ℕ, List, [], ◌∷◌, ◌++◌, Option, Some, None, refl, sym, ◌∙◌, ap, subst, Appended, DiskView, SinkView, SourceView, Refusal, Memory, Sink, Refused, stored_line, FileMachine, Replied, DoesCommand, WroteReply, Digits, IsFirstOf, IsIngest, finish_lines, push_lines, pushed, refused, said}
 use Rattle.std.proofs.lemmas.List.{append-nil}
 use Rattle.dd_io.specs.Flow.{AppendedPart}
 use Rattle.reply_text.specs.declared.ending.Ending.{Ending}

@@ -5,7 +5,6 @@ use Rattle.std.proofs.lemmas.List.{append-nil}
 use Rattle.script_lines.specs.Grammar as lines
 use Rattle.script_lines.specs.ReplyValue as replies
 use Rattle.store_machine.specs.Ingests.{EndsCommitting}
-use Rattle.store_machine.specs.Storing.{MayCome}
 use Rattle.store_machine.specs.Commands as machine
 use Rattle.store_machine.specs.Commands.{IsPush, ends, given_by}
 use Rattle.backup_engine.specs.Singles.{begun}

@@ -1,5 +1,5 @@
 -- To which files the lines of a script lead, and by which they come.
-use Rattle.backup_engine.proofs.Prelude.{◌≡◌, ◌⊎◌, inl, inr, ◌++◌, ℕ, List, [], ◌∷◌, Option, Ok, Err, refl, sym, subst, DiskView, Refusal, Memory, OpensAs, Stored, Store, FileMachine, passes_later, Replied, desk, run_of, run_on, Found, Stepped, MayBeFound, of_files, IsOfFound, MayStand, stored_in, unopened, Passes, RefusedByFiles, RunsByFiles, said}
+use Rattle.backup_engine.proofs.Prelude.{◌≡◌, ◌⊎◌, inl, inr, ◌++◌, ℕ, List, [], ◌∷◌, Option, Ok, Err, refl, sym, subst, DiskView, Refusal, Memory, OpensAs, Stored, Store, FileMachine, passes_later, Replied, desk, run_of, run_on, Found, Stepped, MayBeFound, of_files, IsOfFound, MayStand, stored_in, Passes, RefusedByFiles, RunsByFiles, said}
 use Rattle.reply_text.specs.declared.ending.Ending.{Ending}
 use Rattle.script_lines.specs.Grammar as lines
 use Rattle.script_lines.specs.ReplyValue as replies

@@ -1,5 +1,5 @@
 -- A `format` of a disk that has a store which can be opened, however many slots are closed: it is not done, and changes nothing.
-use Rattle.backup_engine.proofs.Prelude.{◌≡◌, inl, inr, ℕ, List, Option, Some, None, refl, sym, ◌∙◌, ap, subst, arith, byte_at, FORMAT_GATE, DiskView, shown_content, size_of, Shows, IsFormatRefusal, Refusal, AlreadyStore, Clash, DiskRead, DiskWrite, Memory, WrongSize, formatted_line, SourceView, SinkView, Words, Sink, Script, Refused, HasNoCollisions, ByteSet, IsIn, IsOf, OpensAs, Stored, Store, Encodes, IsSegmentOf, Formats, IsCaused, Format, Ingest, SinceStart, WroteReply, Keeps, Call}
+use Rattle.backup_engine.proofs.Prelude.{◌≡◌, inl, inr, ℕ, List, Option, Some, None, refl, sym, ◌∙◌, ap, subst, arith, byte_at, FORMAT_GATE, DiskView, shown_content, formatted_line, SourceView, SinkView, Words, Sink, Script, Refused, OpensAs, Stored, Store, Encodes, Formats, IsCaused, Format, SinceStart, WroteReply, Keeps, Call}
 use Rattle.base_model.proofs.Ranges.{byte-range}
 use Rattle.disk_format.specs.Cells.{format_cell, sealed}
 use Rattle.reply_text.specs.declared.ending.Ending.{Ending}

@@ -1,5 +1,5 @@
 -- A `list` and a `delete` answer by the map, by the laws of their lines.
-use Rattle.backup_engine.proofs.Prelude.{◌≡◌, ◌⊎◌, inl, inr, ℕ, IsTrue, List, [], ◌∷◌, ◌++◌, Option, Some, None, refl, sym, ◌∙◌, subst, Appended, SinkView, Refusal, Memory, Sink, Refused, LineValue, ReplyValue, FileMachine, AllFollow, Replied, CommandLine, Collect, WroteReply, IsCollect, IsDelete, IsListing, collecting, said}
+use Rattle.backup_engine.proofs.Prelude.{◌≡◌, ◌⊎◌, inl, inr, ℕ, IsTrue, List, [], ◌∷◌, ◌++◌, Option, Some, None, refl, sym, ◌∙◌, subst, Appended, SinkView, Refusal, Memory, Sink, Refused, ReplyValue, FileMachine, Replied, CommandLine, IsDelete, IsListing, said}
 use Rattle.std.proofs.lemmas.List.{append-nil}
 use Rattle.dd_io.specs.Flow.{AppendedPart}
 use Rattle.reply_text.specs.declared.ending.Ending.{Ending}

@@ -1,5 +1,5 @@
 -- How many containers have an id above one: a collection has written as many, and fewer than there are slots.
-use Rattle.backup_engine.proofs.Prelude.{◌≡◌, ◌+◌, ◌<◌, ◌≤◌, ℕ, zero, suc, Bool, true, false, cond, List, [], ◌∷◌, length, Option, Some, None, refl, ap, arith, nat_lt, slice_get, ltb-true, HeaderValue, first_free, free_slots, last_id, with_slot, without_slot, some_same}
+use Rattle.backup_engine.proofs.Prelude.{◌≡◌, ◌+◌, ◌<◌, ◌≤◌, ℕ, zero, suc, Bool, true, false, cond, List, [], ◌∷◌, length, Option, Some, None, refl, ap, arith, nat_lt, slice_get, ltb-true, HeaderValue, first_free, free_slots, last_id, with_slot, without_slot}
 use Rattle.std.proofs.lemmas.Bool.{lt-ltb}
 
 -- one, if the id is above
@@ -44,16 +44,14 @@ new_with last h (None ∷ cs) some above = ap (λ (n : ℕ). n + new_in last cs)
 new_with last h (Some g ∷ cs) some above = omega (arith, new_with last h cs some above)
 
 -- an older one that is given back is none fewer
-pub new_without : (last slot : ℕ) (h : HeaderValue) (held : List (Option HeaderValue)) → slice_get held slot ≡ Some (Some h) → h.id ≤ last →
+pub new_without : (last slot : ℕ) (held : List (Option HeaderValue)) → ((h : HeaderValue) → slice_get held slot ≡ Some (Some h) → h.id ≤ last) →
     new_in last (without_slot slot held) ≡ new_in last held
 unfolding new_in
-new_without last slot h [] there low = refl
-new_without last zero h (None ∷ cs) there low = refl
-new_without last zero h (Some g ∷ cs) there low =
-    let same : g.id ≡ h.id = ap (λ (x : HeaderValue). x.id) (some_same g h (some_same (Some g) (Some h) there)) in
-    omega (arith, not_above last g.id (omega (arith, same, low)))
-new_without last (suc slot) h (None ∷ cs) there low = new_without last slot h cs there low
-new_without last (suc slot) h (Some g ∷ cs) there low = omega (arith, new_without last slot h cs there low)
+new_without last slot [] low = refl
+new_without last zero (None ∷ cs) low = refl
+new_without last zero (Some g ∷ cs) low = omega (arith, not_above last g.id (low g refl))
+new_without last (suc slot) (None ∷ cs) low = new_without last slot cs low
+new_without last (suc slot) (Some g ∷ cs) low = omega (arith, new_without last slot cs low)
 
 -- no slot that is closed has one
 pub new_few : (last : ℕ) (held : List (Option HeaderValue)) → new_in last held + free_slots held ≤ length held

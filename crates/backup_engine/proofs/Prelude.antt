@@ -2,7 +2,7 @@
 pub use Rattle.std.proofs.Common.{Bool, Err, IsTrue, List, None, Ok, Option, Result, Some, ap, ap₂, arith, codes, cond, drop, false, get_or, inl, inr, length, map, max, min, option_map, refl, rules, subst, suc, sym, take, take-append-drop, true, zero, ℕ, [], ◌++◌, ◌+◌, ◌-◌, ◌<◌, ◌==◌, ◌^◌, ◌||◌, ◌∙◌, ◌∷◌, ◌≡◌, ◌≢◌, ◌≤◌, ◌⊎◌}
 pub use Rattle.std.proofs.lemmas.Bool.{eqb-true, ltb-false, ltb-true}
 pub use Rattle.std.proofs.lemmas.List.{length-replicate}
-pub use Rattle.std.proofs.lemmas.List.Elements.{Contains-append_right, Contains-get_or}
+pub use Rattle.std.proofs.lemmas.List.Elements.{Contains-append_left, Contains-append_right, Contains-get_or}
 pub use Rattle.std.proofs.lemmas.Result.{IfOk-weaker}
 pub use Rattle.std.proofs.lemmas.Slice.Eq.{bytes_eq-Decides}
 pub use Rattle.std.specs.Borrow.{MutBor}
@@ -94,7 +94,6 @@ pub use Rattle.gc_steps.specs.declared.collection.Stage.{Stage}
 pub use Rattle.gc_steps.specs.declared.collection.Stage.TheVariants.{Filter, Mark, Select, Sweep as SweepStage}
 pub use Rattle.gc_sweep.proofs.KeyLists.{both_so, each_so}
 pub use Rattle.gc_sweep.proofs.InSlots.{of_each}
-pub use Rattle.gc_sweep.specs.InTurn.{slot_in_turn}
 pub use Rattle.gc_sweep.specs.UnderWay.{HasNext}
 pub use Rattle.gc_sweep.specs.declared.sweep.Next.TheVariants.{End, Flush, Release}
 pub use Rattle.hex.specs.Hex.{IsBytes}

@@ -1,5 +1,5 @@
 -- A `restore` answers by the map, by the law of its lines.
-use Rattle.backup_engine.proofs.Prelude.{◌≡◌, ◌⊎◌, inl, inr, ℕ, false, List, [], ◌∷◌, ◌++◌, length, take, Option, Some, None, refl, sym, ◌∙◌, ap, subst, arith, concat, Appended, DiskView, SinkView, Refusal, Sink, Refused, LineValue, AllFollow, Replied, IsFirstOf, IsRestore, next_lines, refused, said}
+use Rattle.backup_engine.proofs.Prelude.{◌≡◌, ◌⊎◌, inl, inr, ℕ, false, List, [], ◌∷◌, ◌++◌, length, take, Option, Some, None, refl, sym, ◌∙◌, ap, subst, arith, concat, Appended, DiskView, SinkView, Sink, Refused, LineValue, AllFollow, Replied, IsRestore, next_lines, refused, said}
 use Rattle.std.proofs.Common.{append_assoc}
 use Rattle.std.proofs.lemmas.List.{append-nil, length-append}
 use Rattle.dd_io.specs.Flow.{AppendedPart}

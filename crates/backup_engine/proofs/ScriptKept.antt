@@ -1,5 +1,5 @@
 -- What `run` keeps, from the lines that were run.
-use Rattle.backup_engine.proofs.Prelude.{◌≡◌, ◌⊎◌, inl, inr, ℕ, List, [], ◌∷◌, ◌++◌, Option, Some, None, Result, refl, sym, ◌∙◌, subst, arith, CountsFault, ending_of, Shows, CrashLeaves, DiskView, IsLater, OnlyReads, later_on, reads_here, until, KnownWith, SourceView, SinkView, ACTORS, IsOpenRefusal, Refusal, Memory, DiskWrite, Refused, LineValue, ReadsTellScripts, fresh_reader, ReplyValue, RunnerState, RunsLine, Replied, CallsRunByFiles, RunsLines, OpensNone, CoreState, Store, Encodes, blames, all_then, ReadsSince, LeavesMeanwhile, HasNoRoom, IsScriptEnd, KeepsScript, WroteReplies, EndsReopening, ScriptRun, ending_in}
+use Rattle.backup_engine.proofs.Prelude.{◌≡◌, ◌⊎◌, inl, inr, ℕ, List, [], ◌∷◌, ◌++◌, Option, Some, None, Result, refl, sym, ◌∙◌, subst, arith, CountsFault, ending_of, Shows, CrashLeaves, DiskView, IsLater, OnlyReads, later_on, reads_here, until, KnownWith, SourceView, SinkView, ACTORS, IsOpenRefusal, Refusal, Memory, DiskWrite, Refused, ReadsTellScripts, fresh_reader, RunnerState, RunsLine, Replied, CallsRunByFiles, RunsLines, OpensNone, CoreState, Store, Encodes, blames, all_then, ReadsSince, LeavesMeanwhile, HasNoRoom, IsScriptEnd, KeepsScript, WroteReplies, EndsReopening, ScriptRun, ending_in}
 use Rattle.std.proofs.Common.{replicate}
 use Rattle.reply_text.specs.declared.ending.Ending.{Ending}
 use Rattle.script_lines.specs.Grammar as lines

@@ -1,5 +1,5 @@
 -- What the index of a core has once containers are sealed: their keys have their places, and all others what they had.
-use Rattle.backup_engine.proofs.Prelude.{◌≤◌, all_then, all_two, suc, subst, StoreChange, ChangesTo, ◌≡◌, ◌≢◌, ℕ, ◌+◌, List, [], ◌∷◌, length, max, Option, Some, None, option_map, refl, sym, ◌∙◌, ap, arith, AllByRecursion, sha256, key_of, Entry, Kind, Place, kind_byte, PlaceMap, Segment, entries_from, segment_key, HeaderValue, header_of, Store, HasKey, IsPartialIndexOf, first_free, ids_of, last_id, newest, SealContainer, with_sealed, entry_copy, newest_of_entries, OfEach, Represents, Runs, Makes, next_id, CoreState, length_in}
+use Rattle.backup_engine.proofs.Prelude.{◌≤◌, all_then, all_two, suc, ChangesTo, ◌≡◌, ◌≢◌, ℕ, ◌+◌, List, [], ◌∷◌, length, max, Option, Some, None, option_map, refl, sym, ◌∙◌, ap, arith, AllByRecursion, sha256, key_of, Entry, Place, kind_byte, PlaceMap, Segment, entries_from, segment_key, HeaderValue, header_of, Store, HasKey, IsPartialIndexOf, first_free, ids_of, last_id, newest, with_sealed, entry_copy, newest_of_entries, OfEach, Represents, Runs, Makes, next_id, CoreState, length_in}
 use Rattle.std.specs.FinMap as finite
 use Rattle.container_meta.specs.Segments.{Contents}
 use Rattle.store_model.specs.Slots.{Copy}

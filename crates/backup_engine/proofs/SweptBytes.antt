@@ -1,13 +1,19 @@
 -- What a step of a collection leaves of the bytes, whatever they are: all before the end of the slots, but gates of containers that were given
 -- back, and slots that were filled.
-use Rattle.backup_engine.proofs.Prelude.{◌≡◌, inl, inr, ◌+◌, ◌≤◌, ℕ, List, [], ◌∷◌, Some, None, refl, ◌∙◌, subst, arith, range, SameOutside, CrashLeaves, DiskView, OnlyReads, SteppedFrom, leaves_weaker, size_of, slot_at, Touches, Stage, Mark, Filter, Select, SweepStage, Flush, Release, End, slot_in_turn, ChangesSlotAlone, SameButSlotOf, Changes, SameBefore, HasNoGate, IsValidFor, Store, HasFree, first_free, Represents, Tables, LiesBeside, SameButSlotsOf}
+use Rattle.backup_engine.proofs.Prelude.{◌≡◌, inl, inr, ◌+◌, ◌≤◌, ℕ, List, [], ◌∷◌, Some, None, refl, ◌∙◌, subst, arith, range, CrashLeaves, DiskView, OnlyReads, SteppedFrom, leaves_weaker, size_of, slot_at, Touches, Stage, Mark, Filter, Select, SweepStage, Flush, Release, End, ChangesSlotAlone, SameButSlotOf, Changes, SameBefore, HasNoGate, IsValidFor, Store, HasFree, first_free, Represents, Tables, LiesBeside, SameButSlotsOf, ◌++◌}
 use Rattle.dd_disk.specs.Ending.{Ending}
 use Rattle.dd_disk.proofs.Later.{reads_leave}
 use Rattle.gc_sweep.specs.declared.sweep.Next.{Next}
 use Rattle.gc_sweep.specs.declared.sweep.Next.TheVariants.{Copy}
 use Rattle.gc_sweep.specs.declared.sweep.Sweep.{Sweep}
+use Rattle.store_model.specs.Freeing.{SameButGates}
 
 -- ---- bytes
+
+-- no gate of some slots and of more is one of neither
+no_gates : (some more : List ℕ) (at count : ℕ) → HasNoGate (some ++ more) at count → HasNoGate some at count × HasNoGate more at count
+no_gates [] more at count none = (tt, none)
+no_gates (slot ∷ some) more at count none = let rest = no_gates some more at count none.1 in ((none.0, rest.0), rest.1)
 
 pub same_slots : (s : Store) (base : List ℕ) → SameButSlotsOf s [] [] base base
 same_slots s base = record { size_is = refl; same = λ at count within none beside. refl }
@@ -17,15 +23,14 @@ module _ (s : Store) (freed filled : List ℕ) (base d c : List ℕ) (but : Same
   pub but_before : SameBefore (slot_at s.slots) d c → SameButSlotsOf s freed filled base c
   but_before same = record { size_is = same.size ∙ but.size_is; same = λ at count within none beside. same.before at count within ∙ but.same at count within none beside }
 
-  -- one gate more may be another
-  but_gate : (slot : ℕ) → SameOutside (slot_at slot) 1 d c → SameButSlotsOf s (slot ∷ freed) filled base c
-  but_gate slot same = record { size_is = same.size ∙ but.size_is; same = kept }
-    where
-      kept : (at count : ℕ) → at + count ≤ slot_at s.slots → HasNoGate (slot ∷ freed) at count → LiesBeside filled at count → range at count c ≡ range at count base
-      kept at count within none beside = elim none.0 [
-        | inl before ↦ same.before at count before ∙ but.same at count within none.1 beside
-        | inr past ↦ same.after at count (omega (arith, past)) ∙ but.same at count within none.1 beside
-      ]
+  -- more gates may be others
+  but_gates : (gone : List ℕ) → SameButGates gone d c → SameButSlotsOf s (gone ++ freed) filled base c
+  but_gates gone same = record {
+    size_is = same.size ∙ but.size_is;
+    same = λ at count within none beside.
+        let apart = no_gates gone freed at count none in
+        same.same at count apart.0 ∙ but.same at count within apart.1 beside;
+  }
 
   -- or one slot more
   but_slot : (slot : ℕ) → SameButSlotOf s.slots slot d c → SameButSlotsOf s freed (slot ∷ filled) base c
@@ -37,8 +42,8 @@ module _ (s : Store) (freed filled : List ℕ) (base d c : List ℕ) (but : Same
         | inr past ↦ same.after at count (omega (arith, past)) within ∙ but.same at count within none beside.1
       ]
 
-  more_freed : (slot : ℕ) → SameButSlotsOf s (slot ∷ freed) filled base d
-  more_freed slot = record { size_is = but.size_is; same = λ at count within none beside. but.same at count within none.1 beside }
+  more_freed : (gone : List ℕ) → SameButSlotsOf s (gone ++ freed) filled base d
+  more_freed gone = record { size_is = but.size_is; same = λ at count within none beside. but.same at count within (no_gates gone freed at count none).1 beside }
 
   more_filled : (slot : ℕ) → SameButSlotsOf s freed (slot ∷ filled) base d
   more_filled slot = record { size_is = but.size_is; same = λ at count within none beside. but.same at count within none beside.1 }
@@ -66,12 +71,12 @@ module _ (s : Store) (freed filled : List ℕ) (base : List ℕ) (old new : Disk
   changes_so e changes = leaves_weaker (SteppedFrom (SameBefore (slot_at s.slots)) old) (SameButSlotsOf s freed filled base) old new
       (λ c stepped. elim stepped [ inl was ↦ framed.each c was | inr (d, was, same) ↦ but_before s freed filled base d c (framed.each d was) same ]) changes.leaves
 
-  gate_so : (slot : ℕ) → CrashLeaves (SteppedFrom (SameOutside (slot_at slot) 1) old) old new → Leaves (SameButSlotsOf s (slot ∷ freed) filled base)
-  gate_so slot leaves = leaves_weaker (SteppedFrom (SameOutside (slot_at slot) 1) old) (SameButSlotsOf s (slot ∷ freed) filled base) old new
+  gates_so : (gone : List ℕ) → CrashLeaves (SteppedFrom (SameButGates gone) old) old new → Leaves (SameButSlotsOf s (gone ++ freed) filled base)
+  gates_so gone leaves = leaves_weaker (SteppedFrom (SameButGates gone) old) (SameButSlotsOf s (gone ++ freed) filled base) old new
       (λ c stepped. elim stepped [
-        | inl was ↦ more_freed s freed filled base c c (framed.each c was) slot
-        | inr (d, was, same) ↦ but_gate s freed filled base d c
-            (framed.each d was) slot same
+        | inl was ↦ more_freed s freed filled base c c (framed.each c was) gone
+        | inr (d, was, same) ↦ but_gates s freed filled base d c
+            (framed.each d was) gone same
       ]) leaves
 
   slot_so : (slot : ℕ) → CrashLeaves (SteppedFrom (SameButSlotOf s.slots slot) old) old new → Leaves (SameButSlotsOf s freed (slot ∷ filled) base)
@@ -84,7 +89,7 @@ module _ (s : Store) (freed filled : List ℕ) (base : List ℕ) (old new : Disk
 
 -- which slots were given back, and filled, once a step of a stage was tried
 abbrev pub freed_with : Stage → Next → Sweep → List ℕ → List ℕ
-freed_with SweepStage (Release source entry) sweep freed = slot_in_turn sweep ∷ freed
+freed_with SweepStage (Release source entry) sweep freed = sweep.ready.items ++ freed
 freed_with stage next sweep freed = freed
 
 abbrev pub filled_with : Stage → Next → Store → List ℕ → List ℕ
@@ -105,5 +110,5 @@ module _ (s after : Store) (freed filled : List ℕ) (base : List ℕ) (old new 
       let alone : ChangesSlotAlone s.slots (first_free after.held) old new =
       subst (λ (n : ℕ). ChangesSlotAlone n (first_free after.held) old new) slots_are ((touches.1.frame None).store_has after represents valid has_free) in
       slot_so s freed filled base old new framed (first_free after.held) (alone.leaves framed.told.0 framed.told.1)
-  stage_so SweepStage (Release source entry) sweep e touches = gate_so s freed filled base old new framed (slot_in_turn sweep) (touches.2.leaves framed.told.0 framed.told.1)
+  stage_so SweepStage (Release source entry) sweep e touches = gates_so s freed filled base old new framed sweep.ready.items (touches.2.leaves framed.told.0 framed.told.1)
   stage_so SweepStage End sweep e touches = reads_so s freed filled base old new framed touches.only

@@ -1,5 +1,7 @@
 -- What the changes of a collection make of the slots of a store, whatever the disk holds: which were closed, and which filled.
-use Rattle.backup_engine.proofs.Prelude.{each_so, ◌≡◌, ◌⊎◌, inl, inr, ◌+◌, ◌<◌, ◌≤◌, ℕ, zero, suc, List, [], ◌∷◌, ◌++◌, Option, Some, None, refl, sym, ap, subst, arith, Contains, slice_get, AllByRecursion, Contains-append_right, Contains-get_or, HeaderValue, HadContainer, copied_in, freed_in, with_freed, Store, first_free, free_slots, last_id, with_slot, without_slot, StoreChange, SealContainer, ChangeName, FlushContainer, FreeContainer, some_same, first_closed, some_free, there_before, written_in, MayFill}
+use Rattle.backup_engine.proofs.Prelude.{each_so, ◌≡◌, ◌⊎◌, inl, inr, ◌+◌, ◌<◌, ◌≤◌, ℕ, zero, suc, List, [], ◌∷◌, ◌++◌, Option, Some, None, refl, sym, ap, subst, arith, Contains, slice_get, AllByRecursion, Contains-append_right, Contains-get_or, HeaderValue, HadContainer, copied_in, freed_in, with_freed, Store, first_free, free_slots, last_id, with_slot, without_slot, StoreChange, SealContainer, ChangeName, FlushContainer, FreeContainer, some_same, first_closed, some_free, there_before, written_in, MayFill, with_all_freed, ◌≢◌, length, map, Contains-append_left, both_so}
+use Rattle.store_machine.proofs.Released.{there_all}
+use Rattle.backup_engine.specs.Collected.{IsOfCollection}
 
 -- ---- changes, one after the other
 
@@ -23,6 +25,19 @@ written-append (SealContainer id kind segments ∷ changes) more = written-appen
 written-append (ChangeName name change ∷ changes) more = written-append changes more
 written-append (FlushContainer id kind segments ∷ changes) more = omega (arith, written-append changes more)
 written-append (FreeContainer slot ∷ changes) more = written-append changes more
+
+-- changes that give containers back
+pub record GivesThese (slots : List ℕ) : Type 0 where
+  pub each : AllByRecursion IsOfCollection (map FreeContainer slots)
+  pub freed : freed_in (map FreeContainer slots) ≡ length slots
+  pub copied : copied_in (map FreeContainer slots) ≡ 0
+  pub written : written_in (map FreeContainer slots) ≡ 0
+
+pub gives_these : (slots : List ℕ) → GivesThese slots
+gives_these [] = record { each = tt; freed = refl; copied = refl; written = refl }
+gives_these (slot ∷ slots) =
+    let rest = gives_these slots in
+    record { each = (tt, rest.each); freed = omega (arith, rest.freed); copied = rest.copied; written = rest.written }
 
 -- ---- one slot
 
@@ -49,6 +64,25 @@ without_closed zero (suc slot) (c ∷ cs) closed = inr closed
 without_closed (suc place) zero (c ∷ cs) closed = inr closed
 without_closed (suc place) (suc slot) (c ∷ cs) closed = elim (without_closed place slot cs closed) [ inl same ↦ inl (ap suc same) | inr was ↦ inr was ]
 
+-- ---- several that were closed
+
+-- what stands in a slot then is in none of them
+pub none_of_gone : (gone : List ℕ) (slot : ℕ) (h : HeaderValue) (s : Store) → slice_get (with_all_freed gone s).held slot ≡ Some (Some h) → AllByRecursion (λ one. one ≢ slot) gone
+none_of_gone [] slot h s there = tt
+none_of_gone (one ∷ gone) slot h s there =
+    ((there_before one slot h s.held (there_all gone (with_freed one s) slot h there)).0, none_of_gone gone slot h (with_freed one s) there)
+
+-- one that is closed then was so, or is one of them
+all_closed : (gone : List ℕ) (slot : ℕ) (s : Store) → slice_get (with_all_freed gone s).held slot ≡ Some None → Contains gone slot ⊎ (slice_get s.held slot ≡ Some None)
+all_closed [] slot s closed = inr closed
+all_closed (one ∷ gone) slot s closed = elim (all_closed gone slot (with_freed one s) closed) [
+  | inl later ↦ inl (Contains-append_right (one ∷ []) gone slot later)
+  | inr was ↦ elim (without_closed one slot s.held was) [
+    | inl same ↦ inl (subst (Contains (one ∷ gone)) same (Contains-get_or (one ∷ gone) 0 0 (omega arith)))
+    | inr before ↦ inr before
+  ]
+]
+
 -- ---- all of them
 
 -- A store came from another by changes of a collection. Each slot that was closed by them had a container of the first store, and each that was
@@ -63,20 +97,20 @@ pub no_slots : (s : Store) → SweptSlots s s [] []
 no_slots s = record { had = tt; may = tt; there = λ slot h there. inl there; closed = λ slot closed. inl closed }
 
 -- where more slots were closed
-pub may_more : (s : Store) (slot : ℕ) (freed : List ℕ) (other : ℕ) → MayFill s freed other → MayFill s (slot ∷ freed) other
-may_more s slot freed other (inl closed) = inl closed
-may_more s slot freed other (inr one) = inr (Contains-append_right (slot ∷ []) freed other one)
+pub may_more : (s : Store) (gone freed : List ℕ) (other : ℕ) → MayFill s freed other → MayFill s (gone ++ freed) other
+may_more s gone freed other (inl closed) = inl closed
+may_more s gone freed other (inr one) = inr (Contains-append_right gone freed other one)
 
 module _ (s after : Store) (freed filled : List ℕ) (slots : SweptSlots s after freed filled) where
-  -- a container is given back that was there at first
-  pub slots_freed : (slot : ℕ) → HadContainer s slot → SweptSlots s (with_freed slot after) (slot ∷ freed) filled
-  slots_freed slot had = record {
-    had = (had, slots.had);
-    may = each_so (MayFill s freed) (MayFill s (slot ∷ freed)) filled (may_more s slot freed) slots.may;
-    there = λ other h there. slots.there other h (there_before slot other h after.held there).1;
-    closed = λ other closed. elim (without_closed slot other after.held closed) [
-      | inl same ↦ inr (subst (Contains (slot ∷ freed)) same (Contains-get_or (slot ∷ freed) 0 0 (omega arith)))
-      | inr was ↦ may_more s slot freed other (slots.closed other was)
+  -- containers are given back that were there at first
+  pub slots_freed : (gone : List ℕ) → AllByRecursion (HadContainer s) gone → SweptSlots s (with_all_freed gone after) (gone ++ freed) filled
+  slots_freed gone had = record {
+    had = both_so (HadContainer s) gone freed had slots.had;
+    may = each_so (MayFill s freed) (MayFill s (gone ++ freed)) filled (may_more s gone freed) slots.may;
+    there = λ other h there. slots.there other h (there_all gone after other h there);
+    closed = λ other closed. elim (all_closed gone other after closed) [
+      | inl one ↦ inr (Contains-append_left gone freed other one)
+      | inr was ↦ may_more s gone freed other (slots.closed other was)
     ];
   }
 

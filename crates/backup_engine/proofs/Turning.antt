@@ -1,5 +1,5 @@
 -- A step that is due is made, and the session is told what it answered.
-use Rattle.backup_engine.proofs.Prelude.{both_so, ◌≡◌, ◌≢◌, inl, inr, ◌∙◌, ℕ, List, [], ◌∷◌, ◌++◌, map, Option, Some, None, Ok, Err, refl, sym, ap, subst, AllByRecursion, Kind, Leaf, Tree, PlaceMap, KindSegment, Segment, segment_key, Answer, KeyPin, children_by, children_of, IsStep, Refusal, Data, Node, HasPieceOf, IsPieceOf, key_of_seg, CoreStep, kept_of, CoreState, IsRunning, Due, Claim, Seal, due_in, item_kind, HasHistory, answered, item_if, item_of, IsItem, SessionState, turn_node, told_by, Asks, all_of, all_then, one_of, IsFed, MayBe, Stops, opens_of, AreNew, IsOneOf, item_is, one_item}
+use Rattle.backup_engine.proofs.Prelude.{both_so, ◌≡◌, ◌≢◌, inl, inr, ◌∙◌, ℕ, List, [], ◌∷◌, ◌++◌, Option, Some, None, Ok, Err, refl, sym, ap, subst, AllByRecursion, Kind, Leaf, Tree, PlaceMap, KindSegment, Segment, segment_key, Answer, KeyPin, children_by, children_of, IsStep, Refusal, Data, Node, HasPieceOf, IsPieceOf, key_of_seg, CoreStep, kept_of, CoreState, IsRunning, Due, Claim, Seal, due_in, item_kind, HasHistory, answered, item_if, item_of, IsItem, SessionState, turn_node, told_by, Asks, all_of, all_then, one_of, IsFed, MayBe, Stops, opens_of, AreNew, IsOneOf, item_is, one_item}
 use Rattle.std.proofs.Common.{append-nil, take}
 use Rattle.container_meta.specs.Segments.{Contents}
 use Rattle.std.specs.FinMap as finite

@@ -1,6 +1,6 @@
 -- A seal on a way that was done: the segments of the containers that were sealed are held, and kept.
-use Rattle.backup_engine.proofs.Prelude.{both_so, all_two, ◌≡◌, ◌≢◌, ℕ, suc, ◌+◌, ◌≤◌, List, [], ◌∷◌, ◌++◌, length, map, Option, Some, None, option_map, Result, Ok, refl, sym, ◌∙◌, ap, subst, arith, AllByRecursion, Kind, Place, PlaceMap, KindSegment, Segment, segment_key, Writing, Answer, PinMap, IsStep, Refusal, HasPieceOf, Store, newest, StoreChange, last_id, lacks, key_of_seg, CoreStep, Makes, Steps, ChangesTo, next_id, kept_of, FileEvent, CoreState, IsRunning, all_map, all_then, one_of, AddsOnce, Way, AreKept, AreNew, length_in, IsOneOf, IsPutStep, seal_by, with_sealed}
-use Rattle.std.proofs.Common.{◌-◌, take}
+use Rattle.backup_engine.proofs.Prelude.{both_so, all_two, ◌≡◌, ◌≢◌, ℕ, suc, List, [], ◌∷◌, ◌++◌, length, map, Option, Some, None, option_map, Result, Ok, refl, sym, ◌∙◌, ap, subst, arith, AllByRecursion, Kind, Place, PlaceMap, KindSegment, Segment, segment_key, Writing, Answer, PinMap, IsStep, Refusal, HasPieceOf, Store, newest, StoreChange, last_id, lacks, key_of_seg, CoreStep, Makes, Steps, ChangesTo, next_id, kept_of, FileEvent, CoreState, IsRunning, all_map, all_then, one_of, AddsOnce, Way, AreKept, AreNew, length_in, IsOneOf, IsPutStep, seal_by, with_sealed}
+use Rattle.std.proofs.Common.{take}
 use Rattle.std.proofs.lemmas.List.{length-take-le}
 use Rattle.std.specs.FinMap as finite
 use Rattle.container_meta.specs.Segments.{Contents}

@@ -25,7 +25,8 @@ fn look_ahead<C: HasState, R: Threads + Sync>(
     }
 }
 
-/// Gives the file of a name to a sink, segment by segment, which are read ahead, so that several threads take their digests.
+/// Gives the file of a name to a sink, segment by segment. Where that pays they are read ahead, so that several threads take their
+/// digests.
 pub(crate) fn give_out<C: HasState, K: Sink, R: Threads + Sync>(
     rt: &R,
     alloc: Global,

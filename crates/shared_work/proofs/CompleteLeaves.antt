@@ -1,5 +1,5 @@
 -- What a step of a machine of files that runs leaves of its names and of its greatest id, and whether a collection runs after it.
-use Rattle.std.proofs.Common.{◌≡◌, ◌⊎◌, inl, inr, ℕ, suc, true, false, Bool, List, [], ◌∷◌, is_some, take, Option, Some, None, Result, Ok, Err, refl, sym, ap, ◌∙◌, subst}
+use Rattle.std.proofs.Common.{◌≡◌, ◌⊎◌, inl, inr, ℕ, suc, true, false, Bool, List, [], ◌∷◌, is_some, take, Option, Some, None, Result, Ok, Err, refl, sym, ap, ◌∙◌, subst, map}
 use Rattle.actor_parts.specs.declared.step.Answer.{Answer}
 use Rattle.actor_parts.specs.declared.step.Answer.TheVariants as answers
 use Rattle.actor_parts.specs.StepValue as steps
@@ -25,6 +25,7 @@ use Rattle.store_machine.specs.Machine.{Collection, Found, keeping, stopped}
 use Rattle.store_machine.specs.Offers.{AddsContainer}
 use Rattle.store_machine.specs.Values.{of_files}
 use Rattle.store_machine.proofs.Added.{each_added}
+use Rattle.store_machine.proofs.Released.{last_by_freeing}
 use Rattle.core_machine.specs.Files.{stored_in}
 use Rattle.core_machine.specs.Refines.{answered_by, asked_as}
 use Rattle.shared_work.specs.Complete.{runs_after}
@@ -70,7 +71,7 @@ module _ (m n : FileMachine) (phase : Phase) (is : GoesOn of_files phase m n) wh
   went_last phases.Select goes = same_last [] goes.3.1 refl
   went_last phases.Copy goes = same_last [] goes.6 refl
   went_last phases.Flush goes = new_last goes.2 goes.3 goes.5
-  went_last phases.Release goes = same_last (FreeContainer goes.3 ∷ []) goes.7 refl
+  went_last phases.Release goes = same_last (map FreeContainer goes.2) goes.6 (last_by_freeing goes.2 m.last_id)
   went_last phase goes = absurd goes
 
 -- ---- a step that is refused

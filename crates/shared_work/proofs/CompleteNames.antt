@@ -85,8 +85,6 @@ own_job P count worker (job ∷ jobs) file each there = elim (own_from (job.numb
   | inr later ↦ own_job P count worker jobs file each.1 later
 ]
 
--- a worker's own job's is among its files
-
 -- a name of one of them is one
 pub mine_named : (count worker : ℕ) (jobs : List Job) (name : List ℕ) → AllByRecursion (λ j. j.number < 2 ^ 64) jobs → IsMine (own_files count worker jobs) name → IsName name
 mine_named count worker jobs name small (file, (there, named)) =

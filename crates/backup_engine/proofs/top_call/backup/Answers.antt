@@ -1,5 +1,5 @@
-use Rattle.backup_engine.proofs.Prelude.{◌≡◌, sym, ◌∙◌, ap, [], Option, Some, option_map, refl, Single, Check, TableLine, command_value, ending_in}
-use Rattle.backup_engine.specs.Line.{Run, Work}
+use Rattle.backup_engine.proofs.Prelude.{sym, ◌∙◌, ap, [], Some, option_map, refl, ending_in}
+use Rattle.backup_engine.specs.Line.{Work}
 use Rattle.backup_engine.specs.LineValue.{line_value, load_value}
 use Rattle.backup_engine.proofs.TopCall.{alone_as, keeps_line, line_as, memory_promise, promise_as, words_promise}
 use Rattle.backup_engine.proofs.top_call.backup.Goals as goal

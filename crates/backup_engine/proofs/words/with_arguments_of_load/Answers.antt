@@ -1,9 +1,9 @@
-use Rattle.backup_engine.proofs.Prelude.{rules, ◌≡◌, ◌∙◌, List, ℕ, codes, false, refl, ap, ap₂, IfOk-weaker, App, app_of}
+use Rattle.backup_engine.proofs.Prelude.{◌≡◌, ◌∙◌, List, ℕ, codes, false, refl, ap, ap₂, IfOk-weaker, App, app_of}
 use Rattle.clap.specs.Words.{AddsArg, new_app, rule_of, with_rule, with_subcommand}
 use Rattle.clap.specs.declared.builder.arg.Arg.{Arg}
 use Rattle.clap.specs.declared.builder.command.Command.{Command}
 use Rattle.clap.specs.declared.builder.command.Command.TheViews.{out-Command}
-use Rattle.backup_engine.specs.Words.{argument_rule, load_arguments}
+use Rattle.backup_engine.specs.Words.{argument_rule}
 use Rattle.backup_engine.proofs.words.with_arguments_of_load.Goals as goal
 
 record IsBegun (app : App) (command : Command) : Type 0 where

@@ -285,10 +285,10 @@ fn inspect_each<D: Disk, K: Sink, S: SpellsDamage, R: Threads + Sync>(
     Ok(())
 }
 
-/// Inspects the slots of a disk, from slot 0 on: of each its gate and, where that is open, all bytes after it, each read once. A header
-/// that breaks the format, or has the id of a right one before it, is damaged; and of a right one each copy whose bytes have another
-/// digest. These digests are taken by several threads, of slots that are read ahead. It takes memory for one slot, for the entries of
-/// one, and for the ids; and, where there is some, for the copies of the slots that are read ahead.
+/// Inspects the slots of a disk, from slot 0 on: of each its gate and, where that is open, all bytes after it. A header that breaks the
+/// format, or has the id of a right one before it, is damaged; and of a right one each copy whose bytes have another digest. With more
+/// than one processor slots are read ahead, and several threads take the digests of their copies. It takes memory for one slot, for the
+/// entries of one, and for the ids; and, where there is some, for the copies of the slots that are read ahead.
 pub fn inspect_slots<D: Disk, K: Sink, S: SpellsDamage, R: Threads + Sync>(
     rt: &R,
     alloc: Global,

@@ -210,8 +210,8 @@ pub fn seal<D: Disk>(
     Ok(digest)
 }
 
-/// Closes slots of the disk, none of them twice, with one sync: writes 0 over their gates, in their order. Where it fails some of
-/// them may be closed, whichever. The one error is `LogFault::DiskWrite`.
+/// Closes slots of the disk with one sync: writes 0 over their gates, in their order. No slot may be named twice. Where it fails some
+/// of them may be closed, whichever. The one error is `LogFault::DiskWrite`.
 pub fn free_all<D: Disk>(disk: &mut D, slots: &[u32]) -> Result<(), LogFault>
     requires { AreApart (D.view disk.old).size slots.now }
     ensures writes { Writes (λ _. FreesAll slots.now) (AreFreed slots.now) (ending blames result) (D.view disk.old) (D.view disk.new) }

@@ -8,7 +8,7 @@ use Rattle.refusals.specs.declared.refusal.Phase.TheVariants as phases
 use Rattle.store_model.proofs.FreedAll.{free_all, last_all, others_all, valid_all}
 use Rattle.store_model.proofs.FreedFiles.{same_but_held}
 use Rattle.gc_sweep.specs.declared.sweep.Next.TheVariants as nexts
-use Rattle.gc_sweep.specs.InTurn.{HasReleased}
+use Rattle.gc_sweep.specs.Ready.{HasReleased}
 use Rattle.gc_sweep.specs.Releasing.{HasFreed}
 use Rattle.gc_sweep.proofs.Freed.{second_apart}
 use Rattle.gc_sweep.proofs.InSlots.{IsSourceIn, stands_in}

@@ -31,8 +31,6 @@ marked_already live key here is other there = (λ was. inl was, λ one. by_case 
     by_case (inl was) = was
     by_case (inr same) = live_same live key other here there same is
 
--- ---- what holds after an Ok, or an Err
-
 -- ---- one key after the other
 
 -- These keys were made live, and the fresh ones are listed.

@@ -86,7 +86,7 @@ pub use Rattle.gc_sweep.specs.Beginning.{Begins}
 pub use Rattle.gc_sweep.specs.Copying.{CopiesSource, TakesBy}
 pub use Rattle.gc_sweep.specs.Flushing.{HasFlushed, IsFlushStepRefusal}
 pub use Rattle.gc_sweep.specs.Holding.{HoldsSweep, IsCopied, IsLive, SourcesStand}
-pub use Rattle.gc_sweep.specs.InTurn.{HasReleased}
+pub use Rattle.gc_sweep.specs.Ready.{HasReleased}
 pub use Rattle.gc_sweep.specs.Next.{IsNext}
 pub use Rattle.gc_sweep.specs.Releasing.{HasFreed, HasNoEntryIn}
 pub use Rattle.gc_sweep.specs.StepsLeft.{steps_left}

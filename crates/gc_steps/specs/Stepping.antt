@@ -22,7 +22,7 @@ use Rattle.gc_sweep.specs.declared.sweep.Next.TheVariants.{Copy, Flush, Release,
 use Rattle.gc_sweep.specs.declared.sweep.Sweep.{Sweep as SweepValue}
 use Rattle.gc_sweep.specs.Copying.{CopiesSource, IsCopyStepRefusal, copy_step}
 use Rattle.gc_sweep.specs.Flushing.{HasFlushed, IsFlushStepRefusal, WritesCopies}
-use Rattle.gc_sweep.specs.InTurn.{HasReleased}
+use Rattle.gc_sweep.specs.Ready.{HasReleased}
 use Rattle.gc_sweep.specs.Releasing.{ChangesGatesAlone, GivesBack, HasFreed, HasNoEntryInAny}
 use Rattle.gc_steps.specs.declared.collection.Collection.{Collection}
 use Rattle.gc_steps.specs.declared.collection.Stage.{Stage}

@@ -24,7 +24,7 @@ HoldsAt stage index held image c = Unit {0}
 
 -- The roots of names and readers and all pins are live, so the index has them; the children of each live node are live. So each key that is
 -- needed is live. A key may be marked that the index lacks. What holds of the sweep holds once it has begun: so what was copied is live,
--- and the index has nothing in the source that is given back next. All that containers hold that came after the collection began is live.
+-- and the index has nothing in the sources that are given back next. All that containers hold that came after the collection began is live.
 pub record SweepIsSafe (index : PlaceMap) (store : Store) (parts : List Part) (image : List ℕ) (c : Collection) : Type 0 where
   pub roots_are_live : (key : List ℕ) → IsRoot (names_of store) parts key → IsLive index c.live key
   pub live_is_closed : (n : Contents) (copy : Copy) → HoldsNode store.held image n copy → IsLive index c.live (node_key n)

@@ -19,8 +19,6 @@ use Rattle.store_state.proofs.Parts.{parts_kept}
 use Rattle.gc_sweep.proofs.Released.{none_held_any}
 use Rattle.gc_sweep.proofs.InSlots.{live_anywhere}
 
--- a key that is marked is so at each place
-
 -- each key that was copied is live
 pub live_keys : (index : PlaceMap) (live : LiveKeys) (held : List (Option HeaderValue)) (image : List ℕ) (kind : Kind) (xs : List Segment)
     → AllByRecursion (IsCopied index live held image kind) xs → (key : List ℕ)

@@ -35,7 +35,7 @@ pub use Rattle.gc_sweep.specs.Beginning.{Begins}
 pub use Rattle.gc_sweep.specs.Copying.{CopiesSource, EndsBy, GoesOn, HasEnded, IsCopyStepRefusal, IsFilling, IsSource, TakesBy}
 pub use Rattle.gc_sweep.specs.Flushing.{HasFlushed, WritesCopies, spared}
 pub use Rattle.gc_sweep.specs.Holding.{AreCopied, GoesOnBeside, HoldsSweep, IsCopied, IsHalfCopied, IsLive, IsOrigin, SourcesStand}
-pub use Rattle.gc_sweep.specs.InTurn.{HasReleased}
+pub use Rattle.gc_sweep.specs.Ready.{HasReleased}
 pub use Rattle.gc_sweep.specs.Next.{IsNext, kind_in}
 pub use Rattle.gc_sweep.specs.Releasing.{ChangesGatesAlone, GivesBack, HasFreed, HasNoEntryIn, HasNoEntryInAny}
 pub use Rattle.gc_sweep.specs.UnderWay.{AreLeft, HasNext, IsSweeping, IsTaken, entry_in, free_in, is_old, sources_before, taken_from}

@@ -20,7 +20,7 @@ pub record WritesCopies (old : Tables) (size : ℕ) (known : Option PlaceMap) (s
   pub has_slot : HasSlotBeside spared old slot
   pub written : HasWritten spared old size known slot filled new (old.held.last_id + 1)
 
--- Nothing is to be written then, and the sources that waited are ready; the first of them is given back.
+-- Nothing is to be written then, and the sources that waited are ready; all of them are given back next.
 pub record HasFlushed (source entry : ℕ) (before after : Sweep) : Type 0 where
   pub emptied : after.buffer.segments ≡ []
   pub none_waits : after.waiting.items ≡ []

@@ -2,7 +2,7 @@ pub mod Beginning
 pub mod Copying
 pub mod Flushing
 pub mod Holding
-pub mod InTurn
+pub mod Ready
 pub mod Next
 pub mod Releasing
 pub mod StepsLeft

@@ -76,7 +76,7 @@ fn fill<D: Disk, X: Index>(
     copy_entries(alloc, disk, held, index, live, slot, entry, buffer, buf)
 }
 
-// Takes it into a sweep what was found of a source in a slot; `waiting` and `ready` are the lists with that slot.
+// Notes in a sweep what was found of a source in a slot; `waiting` and `ready` are the lists with that slot.
 fn take_found(
     held: &SlotTable,
     sweep: &mut Sweep,

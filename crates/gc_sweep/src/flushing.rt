@@ -38,7 +38,7 @@ fn reserved_slot(tables: &Tables) -> Result<u32, Refusal>
     }
 }
 
-// Takes it into a sweep that what was copied is written.
+// Notes in a sweep that what was copied is written.
 fn take_flushed(
     sweep: &mut Sweep,
     source: usize,

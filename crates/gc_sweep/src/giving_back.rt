@@ -29,7 +29,7 @@ fn close_all<D: Disk>(disk: &mut D, slots: &[u32]) -> Result<(), Refusal>
     }
 }
 
-// Takes it into the tables that slots were closed.
+// Notes in the tables that slots were closed.
 fn take_closed(tables: &mut Tables, slots: &[u32])
     requires runs { (size : _) × (known : _) × Runs size known tables.old }
     requires within { AllByRecursion (λ slot. slot < length tables.old.held.ids.items) slots.now }

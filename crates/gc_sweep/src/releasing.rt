@@ -7,7 +7,7 @@ ghost use Rattle.refusals.specs.declared.refusal.Refusal.TheVariants.{DiskWrite}
 ghost use Rattle.store_state.specs.Refused.{blames};
 ghost use Rattle.store_state.specs.Tables.{Runs};
 ghost use Rattle.gc_sweep.specs.Releasing.{GivesBack, ChangesGatesAlone};
-ghost use Rattle.gc_sweep.specs.InTurn.{HasReleased, ReleasesReady};
+ghost use Rattle.gc_sweep.specs.Ready.{HasReleased, ReleasesReady};
 ghost use Rattle.gc_sweep.specs.UnderWay.{IsSweeping};
 ghost use Rattle.gc_sweep.specs.declared.sweep.Next.TheVariants.{Release as ReleaseNext};
 
@@ -18,7 +18,7 @@ use dd_disk::Disk;
 use refusals::Refusal;
 use store_state::{SlotTable, Tables};
 
-// Takes it into a sweep that all sources that are ready were given back.
+// Notes in a sweep that all sources that are ready were given back.
 fn take_released(held: &SlotTable, sweep: &mut Sweep, source: usize, entry: usize)
     requires few_freed { sweep.old.freed + length sweep.old.ready.items < 2 ^ 64 }
     requires there { source < length sweep.old.sources.items → Contains held.now.ids.items (get_or sweep.old.sources.items source 0) }

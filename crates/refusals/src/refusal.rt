@@ -40,7 +40,7 @@ pub enum Phase {
     Copy,
     /// It writes what was copied.
     Flush,
-    /// It gives a source back.
+    /// It gives back all sources that are ready.
     Release,
     /// It ends the collection.
     End,

@@ -1,10 +1,10 @@
 -- A store once several slots are closed, or some of them, that have the newest copy of nothing that is needed.
-use Rattle.store_model.proofs.Prelude.{◌≡◌, ◌≢◌, ◌≤◌, ℕ, zero, suc, Bool, true, false, List, [], ◌∷◌, ◌++◌, Option, Some, None, refl, ◌∙◌, ap, arith, AllByRecursion, slice_get, HeaderValue, with_freed, Store, IsValidFor, last_sequence, HoldsNone, newest, free_slots, without_slot}
+use Rattle.store_model.proofs.Prelude.{◌≡◌, ◌≢◌, ◌≤◌, ℕ, zero, suc, Bool, true, false, List, [], ◌∷◌, ◌++◌, Option, Some, None, refl, ◌∙◌, ap, arith, AllByRecursion, slice_get, HeaderValue, with_freed, Store, IsValidFor, last_sequence, HoldsNone, free_slots, without_slot}
 use Rattle.store_model.specs.Freeing.{with_all_freed, without_some}
-use Rattle.store_model.specs.Reserve.{HasReserve, IsSpare}
+use Rattle.store_model.specs.Reserve.{HasReserve}
 use Rattle.store_model.proofs.Freed.{other_there, valid_freed}
 use Rattle.store_model.proofs.FreedFiles.{reserve_freed, same_but_held}
-use Rattle.store_model.proofs.FreedTrees.{newest_freed, none_after}
+use Rattle.store_model.proofs.FreedTrees.{none_after}
 
 -- ---- some of them
 
@@ -67,17 +67,7 @@ module _ (P : List ℕ → Type 0) where
   none_then slot [] held none all = tt
   none_then slot (other ∷ slots) held none all = (none_after P slot other held none all.0, none_then slot slots held none all.1)
 
-  pub newest_all : (slots : List ℕ) (s : Store) → AllByRecursion (HoldsNone P s.held) slots → (key : List ℕ) → P key
-      → newest 0 (with_all_freed slots s).held key ≡ newest 0 s.held key
-  newest_all [] s all key needed = refl
-  newest_all (slot ∷ slots) s all key needed =
-      newest_all slots (with_freed slot s) (none_then slot slots s.held all.0 all.1) key needed ∙ newest_freed P slot s.held all.0 key needed
-
   pub reserve_all : (slots : List ℕ) (s : Store) → AllByRecursion (HoldsNone P s.held) slots → HasReserve P s.held → HasReserve P (with_all_freed slots s).held
   reserve_all [] s all reserve = reserve
   reserve_all (slot ∷ slots) s all reserve =
       reserve_all slots (with_freed slot s) (none_then slot slots s.held all.0 all.1) (reserve_freed P slot s.held all.0 reserve)
-
-  pub none_of_spare : (slots : List ℕ) (held : List (Option HeaderValue)) → AllByRecursion (IsSpare P held) slots → AllByRecursion (HoldsNone P held) slots
-  none_of_spare [] held all = tt
-  none_of_spare (slot ∷ slots) held all = (all.0.none, none_of_spare slots held all.1)

@@ -1,4 +1,4 @@
--- Containers that are given back (docs/MODEL.md, 'The reserve').
+-- Containers that are given back (docs/MODEL.md, 'The reserve' and 'Sweeping').
 use Rattle.std.specs.Prelude.{◌≡◌, ◌⊎◌, ◌+◌, ◌<◌, ◌≤◌, ℕ, Bool, true, false, List, [], ◌∷◌, length, slice_get, take, Some}
 use Rattle.std.specs.List.{AllByRecursion}
 use Rattle.base_model.specs.Bytes.{range}

@@ -1,18 +1,32 @@
 -- Digests that were taken ahead.
-use Rattle.std.proofs.Common.{◌≡◌, ℕ, ◌<◌, List, length, get_or, map, take, ◌∙◌, ap, subst}
+use Rattle.std.proofs.Common.{◌≡◌, ℕ, ◌<◌, List, [], ◌∷◌, length, get_or, map, take, refl, sym, ◌∙◌, ap, subst, arith}
+use Rattle.std.proofs.Math.Seq.{take-length}
 use Rattle.std.proofs.lemmas.List.{get_or-map, get_or-take, length-map}
 use Rattle.sha2.specs.Sha256.{sha256}
-use Rattle.digests.specs.declared.texts.Span.{Span}
-use Rattle.digests.specs.Texts.{text_in}
+use Rattle.digests.specs.Ahead.{AreTaken}
 
 -- the digest at a place is that of the bytes there
-pub digest_at : (bytes : List ℕ) (spans : List Span) (digests : List (List ℕ)) (n : ℕ) (d : List ℕ) (s : Span)
-    → digests ≡ map (λ at. sha256 (text_in bytes at)) (take (length digests) spans)
-    → n < length digests → get_or digests n d ≡ sha256 (text_in bytes (get_or spans n s))
-digest_at bytes spans digests n d s right within =
-    let digest_of = λ (at : Span). sha256 (text_in bytes at) in
-    let front = take (length digests) spans in
-    let long : length digests ≡ length front = ap length right ∙ length-map front digest_of in
-    ap (λ (all : List (List ℕ)). get_or all n d) right
-    ∙ get_or-map digest_of front n s d (subst (λ (m : ℕ). n < m) long within)
-    ∙ ap digest_of (get_or-take (length digests) spans n s within)
+pub digest_at : (texts digests : List (List ℕ)) (n : ℕ) (d s : List ℕ) → AreTaken texts digests → n < length digests
+    → get_or digests n d ≡ sha256 (get_or texts n s)
+digest_at texts digests n d s taken within =
+    let front = take (length digests) texts in
+    let long : length digests ≡ length front = ap length taken.right ∙ length-map front sha256 in
+    ap (λ (all : List (List ℕ)). get_or all n d) taken.right
+    ∙ get_or-map sha256 front n s d (subst (λ (m : ℕ). n < m) long within)
+    ∙ ap sha256 (get_or-take (length digests) texts n s within)
+
+-- the digests of byte strings are those of whatever shows these
+digests_shown : {A : Type 0} (shown : A → List ℕ) (all : List A) → map (λ t. sha256 (shown t)) all ≡ map sha256 (map shown all)
+digests_shown shown [] = refl
+digests_shown shown (t ∷ all) = ap (λ rest. sha256 (shown t) ∷ rest) (digests_shown shown all)
+
+-- all of them were taken, of the byte strings as they were shown
+pub all_taken : {A : Type 0} (shown : A → List ℕ) (all : List A) (texts digests : List (List ℕ)) → map shown all ≡ texts
+    → digests ≡ map (λ t. sha256 (shown t)) all → AreTaken texts digests
+all_taken shown all texts digests same taken =
+    let right : digests ≡ map sha256 texts = taken ∙ digests_shown shown all ∙ ap (map sha256) same in
+    let long : length digests ≡ length texts = ap length right ∙ length-map texts sha256 in
+    record {
+      some = omega (arith, long);
+      right = right ∙ ap (map sha256) (sym (ap (λ n. take n texts) long ∙ take-length texts));
+    }

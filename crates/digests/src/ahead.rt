@@ -2,8 +2,8 @@
 ghost use Rattle.std.specs.Prelude.{◌≡◌, IfSome};
 ghost use Rattle.sha2.specs.Sha256.{sha256};
 
-use crate::at_once::digests_in;
-use crate::texts::{Span, text};
+use crate::at_once::digests;
+use crate::texts::Texts;
 use sha2::{Digest, Sha256};
 use std::alloc::{AllocError, Global};
 use std::marker::Model;
@@ -30,10 +30,7 @@ impl TakesDigests for Afresh {
 /// than those whose turn it is, is taken afresh: so it gives the right one of any bytes, and contracts see nothing of it.
 #[derive(Drop)]
 pub struct Ahead {
-    /// The byte strings, one behind the other.
-    bytes: Vec<u8>,
-    /// Where each of them lies.
-    spans: Vec<Span>,
+    texts: Texts,
     /// Those of the first of them: of all once they were taken, and of none before.
     digests: Vec<[u8; 32]>,
     /// The first that was not asked for.
@@ -47,7 +44,7 @@ impl Model for Ahead {
 
     ghost view = { λ a. tt };
 
-    ghost invariant = { λ a. AreTaken a.bytes.items a.spans.items a.digests.items };
+    ghost invariant = { λ a. AreTaken a.texts.all a.digests.items };
 }
 
 impl TakesDigests for Ahead {
@@ -65,8 +62,7 @@ impl Ahead {
     /// No bytes. It takes no memory.
     pub fn new(alloc: Global) -> Ahead {
         Ahead {
-            bytes: Vec::new(alloc),
-            spans: Vec::new(alloc),
+            texts: Texts::new(alloc),
             digests: Vec::new(alloc),
             next: 0,
         }
@@ -76,7 +72,7 @@ impl Ahead {
     fn known(&self, bytes: &[u8]) -> Option<[u8; 32]>
         ensures { IfSome result (λ digest. digest ≡ sha256 bytes.now) }
     {
-        if self.next < self.digests.len() && text(&self.bytes, self.spans[self.next]) == bytes {
+        if self.next < self.digests.len() && self.texts.get(self.next) == bytes {
             return Some(self.digests[self.next]);
         }
         None
@@ -89,34 +85,28 @@ impl Ahead {
 
     /// How many byte strings there are.
     pub fn len(&self) -> usize {
-        self.spans.len()
+        self.texts.len()
     }
 
     /// Forgets all, but for the memory.
     pub fn clear(&mut self) {
         self.digests.clear();
-        self.spans.clear();
-        self.bytes.clear();
+        self.texts.clear();
         self.next = 0;
     }
 
     /// One byte string more, whose digest is not taken yet, and no digest of the others. It fails for want of memory alone.
     pub fn add(&mut self, bytes: &[u8]) -> Result<(), AllocError> {
         self.digests.clear();
-        let from = self.bytes.len();
-        self.bytes.extend_from_slice(bytes)?;
-        self.spans.push(Span {
-            from,
-            count: bytes.len(),
-        })?;
-        Ok(())
+        self.texts.push(bytes)
     }
 
     /// Takes the digests of all at once, by several threads. It fails for want of memory alone, and then there are none.
     pub fn take(&mut self, rt: &(impl Threads + Sync), alloc: Global) -> Result<(), AllocError> {
         self.next = 0;
         self.digests.clear();
-        self.digests = digests_in(rt, alloc, &self.bytes, &self.spans)?;
+        let texts = self.texts.all(alloc)?;
+        self.digests = digests(rt, alloc, &texts)?;
         Ok(())
     }
 }

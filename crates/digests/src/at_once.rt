@@ -1,9 +1,7 @@
 //! The digests of many byte strings at once, by several threads.
 ghost use Rattle.std.specs.Prelude.{◌≡◌, map, IfOk};
 ghost use Rattle.sha2.specs.Sha256.{sha256};
-ghost use Rattle.digests.specs.Texts.{text_in};
 
-use crate::texts::{Span, text};
 use rayon::current_num_threads;
 use rayon::prelude::*;
 use sha2::{Digest, Sha256};
@@ -25,42 +23,22 @@ fn least_piece(rt: &impl Threads, count: usize) -> usize {
     if has_threads(rt) { LEAST_PIECE } else { count }
 }
 
-/// The SHA-256 (FIPS 180-4) of each segment, in their order, as one thread would take them. Threads are started where there are
+/// The SHA-256 (FIPS 180-4) of each byte string, in their order, as one thread would take them. Threads are started where there are
 /// 30 or more and more than one processor, two for each at most, and are joined before it returns. It fails for want of memory alone.
 pub fn digests(
     rt: &(impl Threads + Sync),
     alloc: Global,
-    segments: &[Vec<u8>],
+    texts: &[&[u8]],
 ) -> Result<Vec<[u8; 32]>, AllocError>
-    ensures { IfOk result (λ all. all.items ≡ map (λ s. sha256 s.items) segments.now) }
+    ensures { IfOk result (λ all. all.items ≡ map (λ t. sha256 t.now) texts.now) }
 {
-    segments
+    texts
         .par_iter()
         .map(
-            |segment: &Vec<u8>| -> [u8; 32]
-                ensures { result ≡ sha256 segment.now.items }
-            { Sha256::digest(segment.as_slice()) },
+            |text: &&[u8]| -> [u8; 32]
+                ensures { result ≡ sha256 text.now.now }
+            { Sha256::digest(*text) },
         )
-        .with_min_len(least_piece(rt, segments.len()))
-        .collect(rt, alloc)
-}
-
-/// The same of byte strings that lie in one buffer.
-pub(crate) fn digests_in(
-    rt: &(impl Threads + Sync),
-    alloc: Global,
-    bytes: &[u8],
-    spans: &[Span],
-) -> Result<Vec<[u8; 32]>, AllocError>
-    ensures { IfOk result (λ all. all.items ≡ map (λ s. sha256 (text_in bytes.now s)) spans.now) }
-{
-    spans
-        .par_iter()
-        .map(
-            |span: &Span| -> [u8; 32]
-                ensures { result ≡ sha256 (text_in bytes.entry.now span.now) }
-            { Sha256::digest(text(bytes, *span)) },
-        )
-        .with_min_len(least_piece(rt, spans.len()))
+        .with_min_len(least_piece(rt, texts.len()))
         .collect(rt, alloc)
 }

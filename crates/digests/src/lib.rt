@@ -7,3 +7,4 @@ mod texts;
 
 pub use ahead::{Afresh, Ahead, TakesDigests};
 pub use at_once::{LEAST_AT_ONCE, digests, has_threads};
+pub use texts::Texts;

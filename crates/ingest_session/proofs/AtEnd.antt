@@ -1,5 +1,5 @@
 -- The end of a file.
-use Rattle.ingest_session.proofs.Prelude.{◌≡◌, ◌≤◌, ◌+◌, ◌∙◌, ℕ, Bool, true, false, List, [], ◌∷◌, ◌++◌, Some, length, refl, sym, ap, subst, arith, sum_by, length-append, zero-add, sum_by-append, KindSegment, empty_hand, Top, IsSession, SessionState, IsWhole, AreLong, is_last, rest_after, rest_of}
+use Rattle.ingest_session.proofs.Prelude.{◌≡◌, ◌≤◌, ◌+◌, ◌∙◌, ℕ, Bool, true, false, List, [], ◌∷◌, ◌++◌, Some, length, refl, sym, ap, subst, arith, sum_by, length-append, zero-add, sum_by-append, KindSegment, empty_hand, IsSession, SessionState, AreLong, is_last, rest_after, rest_of}
 use Rattle.std.proofs.Common.{Option, None}
 use Rattle.disk_format.specs.declared.numbers.TheConstants.{MOST_SEGMENT}
 use Rattle.ingest_session.proofs.Lists.{all_and_one}

@@ -1,23 +1,30 @@
 -- The digests that a queue keeps of its first segments.
-use Rattle.ingest_session.proofs.Prelude.{◌≤◌, ◌++◌, List, [], ◌∷◌, ℕ, arith, drop, length, map, refl}
-use Rattle.std.specs.Global.{Vec}
+use Rattle.ingest_session.proofs.Prelude.{◌≡◌, ◌≤◌, ◌∙◌, ◌++◌, List, [], ◌∷◌, ℕ, ap, arith, drop, length, map, refl}
 use Rattle.sha2.specs.Sha256.{sha256}
 use Rattle.ingest_session.specs.Buffers.{AreDigests}
 
-pub kept_are_few : (ds : List (List ℕ)) (bs : List (Vec ℕ)) → AreDigests ds bs → length ds ≤ length bs
-kept_are_few [] bs h = omega arith
+pub kept_are_few : (ds ss : List (List ℕ)) → AreDigests ds ss → length ds ≤ length ss
+kept_are_few [] ss h = omega arith
 kept_are_few (d ∷ ds) [] h = absurd h
-kept_are_few (d ∷ ds) (b ∷ bs) h = let few = kept_are_few ds bs h.1 in omega arith
+kept_are_few (d ∷ ds) (s ∷ ss) h = let few = kept_are_few ds ss h.1 in omega arith
 
-pub kept_stay : (ds : List (List ℕ)) (bs more : List (Vec ℕ)) → AreDigests ds bs → AreDigests ds (bs ++ more)
-kept_stay [] bs more h = tt
+pub kept_stay : (ds ss more : List (List ℕ)) → AreDigests ds ss → AreDigests ds (ss ++ more)
+kept_stay [] ss more h = tt
 kept_stay (d ∷ ds) [] more h = absurd h
-kept_stay (d ∷ ds) (b ∷ bs) more h = (h.0, kept_stay ds bs more h.1)
+kept_stay (d ∷ ds) (s ∷ ss) more h = (h.0, kept_stay ds ss more h.1)
 
 -- the digests of the others come after them
-pub kept_of_all : (ds : List (List ℕ)) (bs : List (Vec ℕ)) → AreDigests ds bs
-    → AreDigests (ds ++ map (λ b. sha256 b.items) (drop (length ds) bs)) bs
+pub kept_of_all : (ds ss : List (List ℕ)) → AreDigests ds ss → AreDigests (ds ++ map sha256 (drop (length ds) ss)) ss
 kept_of_all [] [] h = tt
-kept_of_all [] (b ∷ bs) h = (refl, kept_of_all [] bs tt)
+kept_of_all [] (s ∷ ss) h = (refl, kept_of_all [] ss tt)
 kept_of_all (d ∷ ds) [] h = absurd h
-kept_of_all (d ∷ ds) (b ∷ bs) h = (h.0, kept_of_all ds bs h.1)
+kept_of_all (d ∷ ds) (s ∷ ss) h = (h.0, kept_of_all ds ss h.1)
+
+-- the digests of what shows byte strings are those of the byte strings
+pub of_shown : {A : Type 0} (shown : A → List ℕ) (all : List A) (ss : List (List ℕ)) → map shown all ≡ ss
+    → map (λ t. sha256 (shown t)) all ≡ map sha256 ss
+of_shown shown all ss same = each all ∙ ap (map sha256) same
+  where
+    each : (all : List _) → map (λ t. sha256 (shown t)) all ≡ map sha256 (map shown all)
+    each [] = refl
+    each (t ∷ all) = ap (λ ds. sha256 (shown t) ∷ ds) (each all)

@@ -4,6 +4,7 @@ pub mod InLine
 mod Prelude
 pub mod Rests
 pub mod Beginning
+mod Buffered
 pub mod Uncut
 pub mod Taking
 pub mod Takes

@@ -1,6 +1,5 @@
 -- A segment that is whole is put into the queue.
-use Rattle.ingest_session.proofs.Prelude.{◌≡◌, ◌≤◌, ◌<◌, ◌+◌, ◌∙◌, ℕ, Bool, true, false, List, [], ◌∷◌, ◌++◌, Some, length, take, refl, sym, ap, subst, arith, sum_by, append_assoc, length-append, zero-add, length-take-le, sum_by-append, LEAST_SEGMENT, MOST_FILE, Hand, HasCut, empty_hand, Top, IsTaking, KeepsItem, IsSession, SessionState, IsWhole, rest_of, rest_after, is_last, AreLong, turn_node, IsCutInto}
-use Rattle.std.proofs.Common.{Option, None}
+use Rattle.ingest_session.proofs.Prelude.{◌≡◌, ◌≤◌, ◌<◌, ◌+◌, ◌∙◌, ℕ, Bool, true, false, List, [], ◌∷◌, ◌++◌, length, take, refl, sym, ap, subst, arith, sum_by, append_assoc, length-append, zero-add, length-take-le, sum_by-append, LEAST_SEGMENT, MOST_FILE, Hand, HasCut, empty_hand, IsTaking, KeepsItem, IsSession, SessionState, rest_of, rest_after, is_last, AreLong, turn_node, IsCutInto}
 use Rattle.segmenter.specs.declared.cutting.Taken.{Taken}
 use Rattle.segmenter.specs.Cutting.{Takes, IsOne}
 use Rattle.ingest_session.proofs.Lists.{all_and_one}

@@ -107,8 +107,8 @@ impl Aside {
         i < self.containers.len() && self.containers[i].holds(seg)
     }
 
-    /// Whether this segment is in one of them, and not only one of its digest. All of them are of data. Where its key is there once,
-    /// only the container with it is looked into.
+    /// Whether this segment is in one of them, and not only one of its digest. All of them are of data. Where its key came once, only
+    /// the container that it came with is looked into.
     pub fn holds(&self, seg: &Seg) -> bool
         requires data { AllByRecursion IsAside self.now }
         ensures { result ≡ list_any (λ c. has_segment c seg.now.segment) self.now }

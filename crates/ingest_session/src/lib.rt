@@ -15,6 +15,7 @@
 
 mod aside;
 mod asking;
+mod chunks;
 mod counting;
 mod due;
 mod ending;

@@ -1,9 +1,8 @@
 //! The segments of a session that wait for their turn.
-ghost use Rattle.std.specs.Prelude.{◌≡◌, ◌+◌, ◌<◌, ◌≤◌, IsTrue, Some, [], ◌∷◌, ◌++◌, IfOk, drop, length, map, vec_len, vec_capacity};
-ghost use Rattle.std.specs.List.{AllByRecursion};
-ghost use Rattle.ingest_session.specs.Buffers.{IsBuffer, AreSpare};
+ghost use Rattle.std.specs.Prelude.{◌≡◌, ◌+◌, ◌<◌, ◌≤◌, IsTrue, Some, [], ◌∷◌, ◌++◌, IfOk, drop, length};
 ghost use Rattle.ingest_session.specs.Moving.{front_of};
 
+use crate::chunks::Chunks;
 use container_meta::Seg;
 use digests::digests;
 use disk_format::MOST_SEGMENT;
@@ -24,64 +23,33 @@ pub const MOST_WAITING: usize = QUEUE - SPARED;
 /// Where so many segments wait and the first has no digest, it pays to start threads that take all of them.
 pub(crate) const MANY: usize = 32;
 
-/// Segments in the order in which they came. It takes the memory for all of them when it is made; `hash` alone takes more.
+/// Segments in the order in which they came. It takes the memory for all of them when it is made; `first` and `hash` alone take more.
 #[derive(Drop)]
 pub struct Queue {
-    /// How many wait at most while the file goes on; its end adds one more.
-    most: usize,
-    waiting: VecDeque<Vec<u8>>,
-    spare: Vec<Vec<u8>>,
+    waiting: Chunks,
     /// The digests of the first segments that wait, of as many as were taken.
     kept: VecDeque<[u8; 32]>,
 }
 
 impl Model for Queue {
-    ghost use Rattle.std.specs.Prelude.{map};
-    ghost use Rattle.ingest_session.specs.Buffers.{Waiting};
+    ghost use Rattle.ingest_session.specs.Buffers.{AreDigests, Waiting};
 
     ghost Value = { Waiting };
 
-    ghost view = { λ q. record { most = q.most; segments = map (λ b. b.items) q.waiting.items } };
+    ghost view = { λ q. q.waiting };
 
-    ghost use Rattle.std.specs.VecDeque.{deque_capacity};
-    ghost use Rattle.ingest_session.specs.Buffers.{IsQueue};
-
-    ghost invariant = { λ q. IsQueue q.most q.waiting.items (deque_capacity q.waiting) q.spare q.kept.items };
-}
-
-/// So many buffers, each with room for a segment.
-fn buffers(alloc: Global, count: usize) -> Result<Vec<Vec<u8>>, AllocError>
-    ensures spare { IfOk result (AreSpare count) }
-{
-    let mut spare = Vec::with_capacity(alloc, count)?;
-    for _ in 0..count {
-        spare.push_reserved(Vec::with_capacity(alloc, MOST_SEGMENT as usize)?);
-    }
-    Ok(spare)
-}
-
-/// Puts bytes in a buffer, which has room for them, in place of those that it has.
-fn refill(buffer: &mut Vec<u8>, bytes: &[u8])
-    requires buffer { MOST_SEGMENT ≤ vec_capacity buffer.old }
-    requires at_most { length bytes.now ≤ MOST_SEGMENT }
-    ensures items { buffer.new.items ≡ bytes.now }
-    ensures capacity { MOST_SEGMENT ≤ vec_capacity buffer.new }
-{
-    buffer.clear();
-    buffer.extend_from_slice(bytes).unwrap();
+    ghost invariant = { λ q. AreDigests q.kept.items q.waiting.segments };
 }
 
 impl Queue {
-    /// No segments, and room for so many, and one more. It fails for want of memory alone, and no later call takes any but `hash`
-    /// and `first`.
+    /// No segments, and room for so many, and one more. It fails for want of memory alone, and no later call takes any but `first`
+    /// and `hash`.
     pub fn new(alloc: Global, most: usize) -> Result<Queue, AllocError>
         requires { most ≤ LONG_QUEUE }
         ensures { IfOk result (λ q. q ≡ record { most = most; segments = [] }) }
     {
         Ok(Queue {
-            most,
-            waiting: VecDeque::with_capacity(alloc, most + 1)?,
-            spare: buffers(alloc, most + 1)?,
+            waiting: Chunks::new(alloc, most)?,
             kept: VecDeque::new(alloc),
         })
     }
@@ -98,7 +66,7 @@ impl Queue {
     pub fn most(&self) -> usize
         ensures { result ≡ self.now.most }
     {
-        self.most
+        self.waiting.most()
     }
 
     /// Adds a segment at the end.
@@ -107,23 +75,7 @@ impl Queue {
         requires at_most { length segment.now ≤ MOST_SEGMENT }
         ensures { self.new ≡ record self.old { segments = self.old.segments ++ segment.now ∷ [] } }
     {
-        match self.spare.pop() {
-            Some(buffer) => {
-                let mut buffer = buffer;
-                refill(&mut buffer, segment);
-                self.waiting.push_back_reserved(buffer);
-            }
-            None => unreachable!(),
-        }
-    }
-
-    /// The bytes of the first segment.
-    fn front(&self) -> &[u8]
-        requires { 0 < length self.now.segments }
-        ensures first { self.now.segments ≡ result.now ∷ drop 1 self.now.segments }
-        ensures at_most { length result.now ≤ MOST_SEGMENT }
-    {
-        self.waiting[0].as_slice()
+        self.waiting.push(segment);
     }
 
     /// The first segment with its digest, which is kept where `hash` took it, and else is taken here for this answer alone: the queue
@@ -132,9 +84,10 @@ impl Queue {
         requires { 0 < length self.now.segments }
         ensures { IfOk result (λ seg. front_of self.now.segments ≡ Some seg) }
     {
+        let bytes = self.waiting.get(0);
         match self.kept.front() {
-            Some(digest) => Seg::leaf_with_digest(alloc, self.front(), *digest),
-            None => Seg::leaf(alloc, self.front()),
+            Some(digest) => Seg::leaf_with_digest(alloc, bytes, *digest),
+            None => Seg::leaf(alloc, bytes),
         }
     }
 
@@ -150,8 +103,8 @@ impl Queue {
     pub fn hash(&mut self, rt: &(impl Threads + Sync), alloc: Global) -> Result<(), AllocError>
         ensures { self.new ≡ self.old }
     {
-        let (_, bare) = self.waiting.make_contiguous().split_at(self.kept.len());
-        let taken = digests(rt, alloc, bare)?;
+        let bare = self.waiting.from(alloc, self.kept.len())?;
+        let taken = digests(rt, alloc, &bare)?;
         self.kept.append(&mut VecDeque::from_vec(taken))
     }
 
@@ -161,9 +114,6 @@ impl Queue {
         ensures { self.new ≡ record self.old { segments = drop 1 self.old.segments } }
     {
         let _ = self.kept.pop_front();
-        match self.waiting.pop_front() {
-            Some(buffer) => self.spare.push_reserved(buffer),
-            None => unreachable!(),
-        }
+        self.waiting.pop();
     }
 }

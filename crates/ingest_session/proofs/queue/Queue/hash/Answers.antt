@@ -1,13 +1,19 @@
-use Rattle.ingest_session.proofs.Prelude.{rules}
-use Rattle.ingest_session.proofs.Digests.{kept_are_few, kept_of_all}
+use Rattle.ingest_session.proofs.Prelude.{◌≡◌, ◌∙◌, ◌++◌, ap, arith, drop, length, map, rules, subst, sym}
+use Rattle.sha2.specs.Sha256.{sha256}
+use Rattle.ingest_session.specs.Buffers.{AreDigests}
+use Rattle.ingest_session.proofs.Digests.{kept_are_few, kept_of_all, of_shown}
 use Rattle.ingest_session.proofs.queue.Queue.hash.Goals as goal
 
-pub split_at-requires : goal.split_at-requires
-split_at-requires g c =
-    let few = kept_are_few c.self.inside.kept.items c.self.inside.waiting.items c.self.invariant.digests in
-    search (rules, few)
+pub from-requires : goal.from-requires
+from-requires g c =
+    omega (arith, c.len.ensures, c.self.inside.kept.ok, kept_are_few c.self.inside.kept.items c.self.inside.waiting.segments c.self.invariant)
 
-pub invariant_of-self-2 : goal.invariant_of-self-2
-invariant_of-self-2 g c =
-    let all = kept_of_all c.self.inside.kept.items c.self.inside.waiting.items c.self.invariant.digests in
-    search (rules, all)
+pub invariant_of-self : goal.invariant_of-self
+invariant_of-self g c =
+    let ds = c.self.inside.kept.items in
+    let ss = c.self.inside.waiting.segments in
+    let bare = c.in_ok-bare.ensures ∙ ap (λ n. drop n ss) (let same : c.len.result ≡ length ds = omega (arith, c.len.ensures, c.self.inside.kept.ok) in same) in
+    let taken = c.in_ok-taken.ensures ∙ ap (map (λ t. sha256 t.now)) c.deref.ensures.value ∙ of_shown (λ t. t.now) c.in_ok-bare.bare.items (drop (length ds) ss) bare in
+    let all = subst (λ more. AreDigests (ds ++ more) ss) (sym taken) (kept_of_all ds ss c.self.invariant) in
+    let before = c.self.invariant in
+    search (rules, all, before)

@@ -1,7 +1,8 @@
 -- Digests that were taken ahead.
-use Rattle.std.proofs.Common.{◌≡◌, ℕ, ◌<◌, List, [], ◌∷◌, length, get_or, map, take, refl, sym, ◌∙◌, ap, subst, arith}
+use Rattle.std.proofs.Common.{◌≡◌, ℕ, ◌<◌, List, length, get_or, map, take, sym, ◌∙◌, ap, subst, arith}
 use Rattle.std.proofs.Math.Seq.{take-length}
 use Rattle.std.proofs.lemmas.List.{get_or-map, get_or-take, length-map}
+use Rattle.std.proofs.lemmas.Simd.{map-map}
 use Rattle.sha2.specs.Sha256.{sha256}
 use Rattle.digests.specs.Ahead.{AreTaken}
 
@@ -15,16 +16,11 @@ digest_at texts digests n d s taken within =
     ∙ get_or-map sha256 front n s d (subst (λ (m : ℕ). n < m) long within)
     ∙ ap sha256 (get_or-take (length digests) texts n s within)
 
--- the digests of byte strings are those of whatever shows these
-digests_shown : {A : Type 0} (shown : A → List ℕ) (all : List A) → map (λ t. sha256 (shown t)) all ≡ map sha256 (map shown all)
-digests_shown shown [] = refl
-digests_shown shown (t ∷ all) = ap (λ rest. sha256 (shown t) ∷ rest) (digests_shown shown all)
-
 -- all of them were taken, of the byte strings as they were shown
 pub all_taken : {A : Type 0} (shown : A → List ℕ) (all : List A) (texts digests : List (List ℕ)) → map shown all ≡ texts
     → digests ≡ map (λ t. sha256 (shown t)) all → AreTaken texts digests
 all_taken shown all texts digests same taken =
-    let right : digests ≡ map sha256 texts = taken ∙ digests_shown shown all ∙ ap (map sha256) same in
+    let right : digests ≡ map sha256 texts = taken ∙ sym (map-map sha256 shown all) ∙ ap (map sha256) same in
     let long : length digests ≡ length texts = ap length right ∙ length-map texts sha256 in
     record {
       some = omega (arith, long);

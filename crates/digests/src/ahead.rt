@@ -31,7 +31,7 @@ impl TakesDigests for Afresh {
 #[derive(Drop)]
 pub struct Ahead {
     texts: Texts,
-    /// Those of the first of them: of all once they were taken, and of none before.
+    /// The digests of the first of them: of all once they were taken, and of none before.
     digests: Vec<[u8; 32]>,
     /// The first that was not asked for.
     next: usize,
@@ -101,7 +101,8 @@ impl Ahead {
         self.texts.push(bytes)
     }
 
-    /// Takes the digests of all at once, by several threads. It fails for want of memory alone, and then there are none.
+    /// Takes the digests of all at once, by several threads, into memory of their own. It fails for want of memory alone, and then there
+    /// are none.
     pub fn take(&mut self, rt: &(impl Threads + Sync), alloc: Global) -> Result<(), AllocError> {
         self.next = 0;
         self.digests.clear();

@@ -8,7 +8,8 @@ use sha2::{Digest, Sha256};
 use std::alloc::{AllocError, Global};
 use std::thread::Threads;
 
-/// A thread gets no fewer segments than this: to start it costs about as much as the digests of two or three of the usual length.
+/// A thread gets no fewer byte strings than this: to start it costs about as much as the digests of two or three segments of the usual
+/// length.
 const LEAST_PIECE: usize = 15;
 /// Threads are started for no fewer byte strings than this.
 pub const LEAST_AT_ONCE: usize = 2 * LEAST_PIECE;

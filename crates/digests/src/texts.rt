@@ -45,7 +45,7 @@ impl Model for Texts {
 impl Texts {
     /// None. It takes no memory.
     pub fn new(alloc: Global) -> Texts
-        ensures { result.all ≡ [] }
+        ensures { result ≡ record { all = []; places = 0; room = 0 } }
     {
         Texts {
             bytes: Vec::new(alloc),
@@ -78,7 +78,7 @@ impl Texts {
         text(&self.bytes, self.spans[n])
     }
 
-    /// Adds one, which there is room for.
+    /// Adds one, which there is room for: it takes no memory.
     pub fn push_reserved(&mut self, text: &[u8])
         requires place { length self.old.all < self.old.places }
         requires room { sum_by length self.old.all + length text.now ≤ self.old.room }
@@ -93,10 +93,11 @@ impl Texts {
         });
     }
 
-    /// Adds one. Where there is no memory for it, there are as many as before.
+    /// Adds one. It takes memory for it where there is no room, and where there is none they stay as they are.
     pub fn push(&mut self, text: &[u8]) -> Result<(), AllocError>
         ensures ok { OnOk result (self.new.all ≡ self.old.all ++ text.now ∷ []) }
         ensures err { OnErr result (self.new.all ≡ self.old.all) }
+        ensures keeps { KeepsRoom self.old self.new }
     {
         self.spans.reserve(1)?;
         self.bytes.reserve(text.len())?;
@@ -113,7 +114,7 @@ impl Texts {
         self.spans.clear();
     }
 
-    /// All of them. It fails for want of memory alone.
+    /// All of them, in memory for as many places; the bytes stay where they are. It fails for want of memory alone.
     pub fn all(&self, alloc: Global) -> Result<Vec<&[u8]>, AllocError>
         ensures { IfOk result (λ texts. map (λ t. t.now) texts.items ≡ self.now.all) }
     {

@@ -176,7 +176,7 @@ stops_by_read line all old new sink halt is = subst (λ (h : Halt). StopsAmong l
 
 -- memory ran out after something was found
 pub stops_then : (line : Damage → List ℕ) (all rest : List ℕ → Found) (old new : DiskView) (sink sink_now : SinkView) (tally tally_now : Tally) (halt : Halt) →
-    halt ≡ halts_of.Memory → OnlyReads old new → Finds line all rest old new sink sink_now tally tally_now
+    halt ≡ halts_of.Memory → OnlyReads old new → Finds line all rest old new (sink, tally) (sink_now, tally_now)
     → StopsAmong line all old new sink sink_now halt
 stops_then line all rest old new sink sink_now tally tally_now halt is reads finds =
     subst (λ (h : Halt). StopsAmong line all old new sink sink_now h) (sym is)
@@ -194,8 +194,8 @@ module _ (line : Damage → List ℕ) (slot : ℕ) (ids given bytes : List ℕ) 
 
   module _ (tally tally_now : Tally) (id : Option ℕ) (is : ids_with given (header_at bytes) ≡ given ++ option_to_list id)
       (done : Reports line (slot_found slot given bytes) sink sink_now tally tally_now) where
-    pub finds_open : (now : List ℕ) → now ≡ ids ++ option_to_list id → (left : ℕ) → Finds line (slots_found (suc left) slot ids) (slots_found left (suc slot) now) old new sink
-        sink_now tally tally_now
+    pub finds_open : (now : List ℕ) → now ≡ ids ++ option_to_list id → (left : ℕ)
+        → Finds line (slots_found (suc left) slot ids) (slots_found left (suc slot) now) old new (sink, tally) (sink_now, tally_now)
     finds_open now are left =
         finds_shown line (slot_found slot given bytes) (slots_found (suc left) slot ids) (slots_found left (suc slot) now) old new sink sink_now tally tally_now
         (shows_open slot ids bytes left old new given now same (is ∙ ap (λ (l : List ℕ). l ++ option_to_list id) same ∙ sym are) read) done

@@ -220,7 +220,7 @@ fn inspect_slot<D: Disk, K: Sink, S: SpellsDamage, H: TakesDigests>(
     requires room { MOST_ENTRIES ≤ vec_capacity entries.old }
     ensures found { OnOk result ((left : ℕ) → Finds S.line (slots_found (suc left) slot ids.old.items)
         (slots_found left (suc slot) ids.new.items)
-        (D.view disk.old) (D.view disk.new) (K.view sink.old) (K.view sink.new) tally.old tally.new) }
+        (D.view disk.old) (D.view disk.new) (K.view sink.old, tally.old) (K.view sink.new, tally.new)) }
     ensures stopped { IfErr result (λ halt. (left : ℕ) → StopsAmong S.line (slots_found (suc left) slot ids.old.items)
         (D.view disk.old) (D.view disk.new) (K.view sink.old) (K.view sink.new) halt) }
     ensures length { length bytes.new ≡ SLOT_BYTES }
@@ -270,7 +270,7 @@ fn inspect_each<D: Disk, K: Sink, S: SpellsDamage, R: Threads + Sync>(
     requires room { MOST_ENTRIES ≤ vec_capacity entries.old }
     requires none { ids.items ≡ [] }
     ensures found { OnOk result (Finds S.line (slots_found slots 0 []) (λ image. nothing)
-        (D.view disk.old) (D.view disk.new) (K.view sink.old) (K.view sink.new) tally.old tally.new) }
+        (D.view disk.old) (D.view disk.new) (K.view sink.old, tally.old) (K.view sink.new, tally.new)) }
     ensures stopped { IfErr result (StopsAmong S.line (slots_found slots 0 [])
         (D.view disk.old) (D.view disk.new) (K.view sink.old) (K.view sink.new)) }
     ensures reads { Reads (ending blames result) (D.view disk.old) (D.view disk.new) }
@@ -300,7 +300,7 @@ pub fn inspect_slots<D: Disk, K: Sink, S: SpellsDamage, R: Threads + Sync>(
     requires count { IsSlotCount slots }
     requires size { (D.view disk.old).size ≡ size_of slots }
     ensures found { OnOk result (Finds S.line (slots_found slots 0 []) (λ image. nothing)
-        (D.view disk.old) (D.view disk.new) (K.view sink.old) (K.view sink.new) tally.old tally.new) }
+        (D.view disk.old) (D.view disk.new) (K.view sink.old, tally.old) (K.view sink.new, tally.new)) }
     ensures stopped { IfErr result (StopsAmong S.line (slots_found slots 0 [])
         (D.view disk.old) (D.view disk.new) (K.view sink.old) (K.view sink.new)) }
     ensures reads { Reads (ending blames result) (D.view disk.old) (D.view disk.new) }

@@ -122,7 +122,7 @@ stops_one line given d old new e is sends = record {
 
 module _ (line : Damage → List ℕ) where
   -- nothing was done
-  pub finds_none : (all : List ℕ → Found) (v : DiskView) (sink : SinkView) (tally : Tally) → Finds line all all v v sink sink tally tally
+  pub finds_none : (all : List ℕ → Found) (v : DiskView) (sink : SinkView) (tally : Tally) → Finds line all all v v (sink, tally) (sink, tally)
   finds_none all v sink tally = record {
     found = nothing;
     shown = always v v _ (λ image sized. sym (nothing_then (all image)));
@@ -131,9 +131,9 @@ module _ (line : Damage → List ℕ) where
 
   -- and then more
   module _ (all rest : List ℕ → Found) (old mid new : DiskView) (sink sink_mid sink_now : SinkView) (tally tally_mid : Tally)
-      (first : Finds line all rest old mid sink sink_mid tally tally_mid) (before : OnlyReads old mid) (later : IsLater mid new) where
-    pub finds_on : (end : List ℕ → Found) (tally_now : Tally) → Finds line rest end mid new sink_mid sink_now tally_mid tally_now →
-        Finds line all end old new sink sink_now tally tally_now
+      (first : Finds line all rest old mid (sink, tally) (sink_mid, tally_mid)) (before : OnlyReads old mid) (later : IsLater mid new) where
+    pub finds_on : (end : List ℕ → Found) (tally_now : Tally) → Finds line rest end mid new (sink_mid, tally_mid) (sink_now, tally_now) →
+        Finds line all end old new (sink, tally) (sink_now, tally_now)
     finds_on end tally_now second = record {
       found = and_then first.found second.found;
       shown = weaker old new (λ image sized is. is.0 ∙ ap (and_then first.found) is.1 ∙ sym (then_then first.found second.found (end image)))
@@ -154,8 +154,8 @@ module _ (line : Damage → List ℕ) where
 
   -- of what comes before more
   module _ (part rest : List ℕ → Found) (old new : DiskView) (sink sink_now : SinkView) where
-    pub finds_first : (tally tally_now : Tally) → Finds line part (λ image. nothing) old new sink sink_now tally tally_now →
-        Finds line (λ image. and_then (part image) (rest image)) rest old new sink sink_now tally tally_now
+    pub finds_first : (tally tally_now : Tally) → Finds line part (λ image. nothing) old new (sink, tally) (sink_now, tally_now) →
+        Finds line (λ image. and_then (part image) (rest image)) rest old new (sink, tally) (sink_now, tally_now)
     finds_first tally tally_now finds = record {
       found = finds.found;
       shown = weaker old new (λ image sized is. ap (λ (f : Found). and_then f (rest image)) (is ∙ then_nothing finds.found)) finds.shown;
@@ -194,7 +194,7 @@ module _ (line : Damage → List ℕ) where
   -- what reads showed to come first was reported
   pub finds_shown : (found : Found) (all rest : List ℕ → Found) (old new : DiskView) (sink sink_now : SinkView) (tally tally_now : Tally) →
       Shows old new (λ image. all image ≡ and_then found (rest image)) → Reports line found sink sink_now tally tally_now
-      → Finds line all rest old new sink sink_now tally tally_now
+      → Finds line all rest old new (sink, tally) (sink_now, tally_now)
   finds_shown found all rest old new sink sink_now tally tally_now shown reports = record { found = found; shown = shown; reports = reports }
 
   pub stops_shown : (found : Found) (all rest : List ℕ → Found) (old new : DiskView) (sink sink_now : SinkView) (halt : Halt) →
@@ -216,7 +216,7 @@ module _ (line : Damage → List ℕ) where
   -- what was found is the same by another name
   pub finds_as : (all other rest last : List ℕ → Found) (old new : DiskView) (sink sink_now : SinkView) (tally tally_now : Tally) →
       Shows old new (λ image. all image ≡ other image) → Shows old new (λ image. rest image ≡ last image)
-      → Finds line all rest old new sink sink_now tally tally_now → Finds line other last old new sink sink_now tally tally_now
+      → Finds line all rest old new (sink, tally) (sink_now, tally_now) → Finds line other last old new (sink, tally) (sink_now, tally_now)
   finds_as all other rest last old new sink sink_now tally tally_now same end finds = record {
     found = finds.found;
     shown = weaker old new (λ image sized is. sym is.1.0 ∙ is.0 ∙ ap (and_then finds.found) is.1.1) (also old new finds.shown (also old new same end));

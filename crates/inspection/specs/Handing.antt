@@ -48,12 +48,11 @@ pub record Reports (line : Damage → List ℕ) (found : Found) (old new : SinkV
   pub counts : Counts found tally tally_now
   pub written : Written line found.damages old new
 
--- Reads showed how much of what there is to find comes before the rest, and that was reported.
-pub record Finds (line : Damage → List ℕ) (all rest : List ℕ → Found) (old new : DiskView) (sink sink_now : SinkView)
-    (tally tally_now : Tally) : Type 0 where
+-- Reads showed how much of what there is to find comes before the rest, and that was reported, from this sink and tally on.
+pub record Finds (line : Damage → List ℕ) (all rest : List ℕ → Found) (old new : DiskView) (so_far now : SinkView × Tally) : Type 0 where
   pub found : Found
   pub shown : Shows old new (λ image. all image ≡ and_then found (rest image))
-  pub reports : Reports line found sink sink_now tally tally_now
+  pub reports : Reports line found so_far.0 now.0 so_far.1 now.1
 
 -- a list begins with these
 abbrev pub Begins : List Damage → List Damage → Type 0

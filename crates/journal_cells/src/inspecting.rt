@@ -204,7 +204,7 @@ fn inspect_next<D: Disk, K: Sink, S: SpellsDamage>(
         (records_found half counts (half_cells - before.old.count) (replay before.old))
         (if more then records_found half counts (half_cells - before.new.count) (replay before.new)
         else past_found half counts before.new.count)
-        (D.view disk.old) (D.view disk.new) (K.view sink.old) (K.view sink.new) tally.old tally.new) }
+        (D.view disk.old) (D.view disk.new) (K.view sink.old, tally.old) (K.view sink.new, tally.new)) }
     ensures stopped { IfErr result (λ halt. (counts : Bool) → StopsAmong S.line
         (records_found half counts (half_cells - before.old.count) (replay before.old))
         (D.view disk.old) (D.view disk.new) (K.view sink.old) (K.view sink.new) halt) }
@@ -238,7 +238,7 @@ fn inspect_records<D: Disk, K: Sink, S: SpellsDamage>(
     ensures few { IfOk result (λ count. count ≤ half_cells) }
     ensures found { IfOk result (λ count. (counts : Bool) → Finds S.line
         (records_found half counts half_cells nothing_yet) (past_found half counts count)
-        (D.view disk.old) (D.view disk.new) (K.view sink.old) (K.view sink.new) tally.old tally.new) }
+        (D.view disk.old) (D.view disk.new) (K.view sink.old, tally.old) (K.view sink.new, tally.new)) }
     ensures stopped { IfErr result (λ halt. (counts : Bool) → StopsAmong S.line (records_found half counts half_cells nothing_yet)
         (D.view disk.old) (D.view disk.new) (K.view sink.old) (K.view sink.new) halt) }
     ensures reads { Reads (ending blames result) (D.view disk.old) (D.view disk.new) }
@@ -265,7 +265,7 @@ fn inspect_past<D: Disk, K: Sink, S: SpellsDamage>(
     requires within { from ≤ HALF_CELLS }
     requires size { LEAST_SIZE ≤ (D.view disk.old).size }
     ensures found { OnOk result (Finds S.line (past_found half counts from) (λ image. nothing)
-        (D.view disk.old) (D.view disk.new) (K.view sink.old) (K.view sink.new) tally.old tally.new) }
+        (D.view disk.old) (D.view disk.new) (K.view sink.old, tally.old) (K.view sink.new, tally.new)) }
     ensures stopped { IfErr result (StopsAmong S.line (past_found half counts from)
         (D.view disk.old) (D.view disk.new) (K.view sink.old) (K.view sink.new)) }
     ensures reads { Reads (ending blames result) (D.view disk.old) (D.view disk.new) }
@@ -296,7 +296,7 @@ fn inspect_half<D: Disk, K: Sink, S: SpellsDamage>(
     requires length { length selector.now ≡ CELL_BYTES }
     requires size { LEAST_SIZE ≤ (D.view disk.old).size }
     ensures found { OnOk result (Finds S.line (half_found half selector.now counts) (λ image. nothing)
-        (D.view disk.old) (D.view disk.new) (K.view sink.old) (K.view sink.new) tally.old tally.new) }
+        (D.view disk.old) (D.view disk.new) (K.view sink.old, tally.old) (K.view sink.new, tally.new)) }
     ensures stopped { IfErr result (StopsAmong S.line (half_found half selector.now counts)
         (D.view disk.old) (D.view disk.new) (K.view sink.old) (K.view sink.new)) }
     ensures reads { Reads (ending blames result) (D.view disk.old) (D.view disk.new) }
@@ -321,7 +321,7 @@ fn inspect_halves<D: Disk, K: Sink, S: SpellsDamage>(
     requires second { length second.now ≡ CELL_BYTES }
     requires size { LEAST_SIZE ≤ (D.view disk.old).size }
     ensures found { OnOk result (Finds S.line (halves_found first.now second.now) (λ image. nothing)
-        (D.view disk.old) (D.view disk.new) (K.view sink.old) (K.view sink.new) tally.old tally.new) }
+        (D.view disk.old) (D.view disk.new) (K.view sink.old, tally.old) (K.view sink.new, tally.new)) }
     ensures stopped { IfErr result (StopsAmong S.line (halves_found first.now second.now)
         (D.view disk.old) (D.view disk.new) (K.view sink.old) (K.view sink.new)) }
     ensures reads { Reads (ending blames result) (D.view disk.old) (D.view disk.new) }
@@ -357,7 +357,7 @@ pub fn inspect_journal<D: Disk, K: Sink, S: SpellsDamage>(
 ) -> Result<(), Halt>
     requires { LEAST_SIZE ≤ (D.view disk.old).size }
     ensures found { OnOk result (Finds S.line journal_found (λ image. nothing)
-        (D.view disk.old) (D.view disk.new) (K.view sink.old) (K.view sink.new) tally.old tally.new) }
+        (D.view disk.old) (D.view disk.new) (K.view sink.old, tally.old) (K.view sink.new, tally.new)) }
     ensures stopped { IfErr result (StopsAmong S.line journal_found
         (D.view disk.old) (D.view disk.new) (K.view sink.old) (K.view sink.new)) }
     ensures reads { Reads (ending blames result) (D.view disk.old) (D.view disk.new) }

@@ -29,7 +29,7 @@ module _ (line : Damage → List ℕ) (slots : ℕ) where
   stops_at_format v sink sink_now halt stops = stops_shown line (cell_with None) (image_found slots) after_format v v sink sink_now halt (always v v _ (λ image sized. refl)) stops
 
   module _ (old : DiskView) (sink sink_1 : SinkView) (tally tally_1 : Tally) (format : Reports line (cell_with None) sink sink_1 tally tally_1) where
-    finds_format : Finds line (image_found slots) after_format old old sink sink_1 tally tally_1
+    finds_format : Finds line (image_found slots) after_format old old (sink, tally) (sink_1, tally_1)
     unfolding after_format
     finds_format = finds_shown line (cell_with None) (image_found slots) after_format old old sink sink_1 tally tally_1 (always old old _ (λ image sized. refl)) format
 
@@ -40,16 +40,16 @@ module _ (line : Damage → List ℕ) (slots : ℕ) where
           stops_on line (image_found slots) after_format old old mid sink sink_1 sink_2 tally tally_1 finds_format (reads_here old) reads.later halt
           (stops_first line journal_found (slots_found slots 0 []) old mid sink_1 sink_2 halt stops)
 
-      module _ (tally_2 : Tally) (journal : Finds line journal_found (λ image. nothing) old mid sink_1 sink_2 tally_1 tally_2) where
-        finds_journal : Finds line (image_found slots) (slots_found slots 0 []) old mid sink sink_2 tally tally_2
+      module _ (tally_2 : Tally) (journal : Finds line journal_found (λ image. nothing) old mid (sink_1, tally_1) (sink_2, tally_2)) where
+        finds_journal : Finds line (image_found slots) (slots_found slots 0 []) old mid (sink, tally) (sink_2, tally_2)
         unfolding after_format
         finds_journal =
             finds_on line (image_found slots) after_format old old mid sink sink_1 sink_2 tally tally_1 finds_format (reads_here old) reads.later (slots_found slots 0 []) tally_2
             (finds_first line journal_found (slots_found slots 0 []) old mid sink_1 sink_2 tally_1 tally_2 journal)
 
         module _ (new : DiskView) (sink_3 : SinkView) (later : IsLater mid new) where
-          pub finds_all : (tally_3 : Tally) → Finds line (slots_found slots 0 []) (λ image. nothing) mid new sink_2 sink_3 tally_2 tally_3 →
-              Finds line (image_found slots) (λ image. nothing) old new sink sink_3 tally tally_3
+          pub finds_all : (tally_3 : Tally) → Finds line (slots_found slots 0 []) (λ image. nothing) mid new (sink_2, tally_2) (sink_3, tally_3) →
+              Finds line (image_found slots) (λ image. nothing) old new (sink, tally) (sink_3, tally_3)
           finds_all tally_3 last = finds_on line (image_found slots) (slots_found slots 0 []) old mid new sink sink_2 sink_3 tally tally_2 finds_journal reads later
               (λ image. nothing) tally_3 last
 
@@ -73,7 +73,7 @@ module _ (line : Damage → List ℕ) (slots : ℕ) (old mid new : DiskView) (si
       let is = shown_content old new _ image shown told in
       exact_counts found tally (subst (λ (f : Found). f.cells + f.copies + length f.damages < 2 ^ 64 - 1) is (image_small slots image sized.count.1)) counts
 
-  pub inspected : (tally tally_now : Tally) → tally ≡ nothing_counted → Finds line (image_found slots) (λ image. nothing) mid new sink sink_now tally tally_now →
+  pub inspected : (tally tally_now : Tally) → tally ≡ nothing_counted → Finds line (image_found slots) (λ image. nothing) mid new (sink, tally) (sink_now, tally_now) →
       IsInspected line old new sink sink_now tally_now
   inspected tally tally_now none finds =
       let shown : Shows old new (λ image. image_found slots image ≡ finds.found) = weaker old new (λ image sized is. is ∙ then_nothing finds.found)

@@ -58,7 +58,7 @@ fn inspect_parts<D: Disk, K: Sink, S: SpellsDamage, R: Threads + Sync>(
     requires count { IsSlotCount slots }
     requires size { (D.view disk.old).size ≡ size_for slots }
     ensures found { OnOk result (Finds S.line (image_found slots) (λ image. nothing)
-        (D.view disk.old) (D.view disk.new) (K.view sink.old) (K.view sink.new) tally.old tally.new) }
+        (D.view disk.old) (D.view disk.new) (K.view sink.old, tally.old) (K.view sink.new, tally.new)) }
     ensures stopped { IfErr result (StopsAmong S.line (image_found slots)
         (D.view disk.old) (D.view disk.new) (K.view sink.old) (K.view sink.new)) }
     ensures reads { Reads (ending blames result) (D.view disk.old) (D.view disk.new) }
@@ -73,7 +73,8 @@ fn inspect_parts<D: Disk, K: Sink, S: SpellsDamage, R: Threads + Sync>(
 ///
 /// The format cell comes first, with the refusals of an opening; then both selectors where they are open, the records of each half
 /// whose selector is open, and the container slots, the digests of whose copies are taken by several threads. It writes nothing. It takes
-/// memory for the names of one half of the journal, for one slot with its entries, for the copies of some slots, and for an id for each slot.
+/// memory for the names of one half of the journal, for one slot with its entries, for the copies of some slots, and for an id for each
+/// slot.
 pub fn inspect<D: Disk, K: Sink, S: SpellsDamage, R: Threads + Sync>(
     rt: &R,
     alloc: Global,

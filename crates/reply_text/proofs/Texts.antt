@@ -22,7 +22,7 @@ pub clash_byte_text : (key : List ℕ) (place offered held : ℕ) (key_digits pl
     place_text ≡ decimal place → offered_digits ≡ encode_lower (offered ∷ []) → held_digits ≡ encode_lower (held ∷ [])
     → codes "fault 7 clash " ++ (key_digits ++ (codes " byte " ++ (place_text ++ (codes " " ++ (offered_digits ++ (codes " " ++ (held_digits ++ (codes "\n" ++ []))))))))
     ≡ fault_line (Refused (Clash key (Byte place offered held)))
-unfolding fault_line ending_text refusal_text difference_text
+unfolding fault_line ending_text refusal_text
 clash_byte_text key place offered held key_digits place_text offered_digits held_digits is_key is_place is_offered is_held =
     rw (is_key, is_place, is_offered, is_held) (byte_pieces (codes "fault 7 clash ") (encode_lower key) (codes " ") (codes "byte ") (decimal place) (encode_lower (offered ∷ []))
     (encode_lower (held ∷ [])) (codes "\n"))

@@ -58,7 +58,7 @@ unfoldable pub summary_text : List NamedRoot → (segments bytes : ℕ) → List
 summary_text files segments bytes = flat_map file_line files ++ unique_line segments bytes
 
 -- how two segments of one key differ
-unfoldable pub difference_text : Difference → List ℕ
+abbrev pub difference_text : Difference → List ℕ
 difference_text (Length offered held) = codes "length " ++ decimal offered ++ codes " " ++ decimal held
 difference_text (Byte place offered held) =
     codes "byte " ++ decimal place ++ codes " " ++ encode_lower (offered ∷ []) ++ codes " " ++ encode_lower (held ∷ [])
@@ -81,7 +81,7 @@ phase_text Release = codes "release"
 phase_text End = codes "end"
 
 -- how a cell or a header breaks the format
-unfoldable pub why_text : Why → List ℕ
+abbrev pub why_text : Why → List ℕ
 why_text (Digest want got) = codes "digest " ++ encode_lower want ++ codes " " ++ encode_lower got
 why_text (Field offset got) = codes "field " ++ decimal offset ++ codes " " ++ decimal got
 

@@ -37,7 +37,7 @@ fn write_cell<K: Sink>(sink: &mut K, at: u64, why: &Why) -> Result<(), SinkFault
     }
 }
 
-#[tactic(auto, unfolding(crate::specs::Text::damage_line, crate::specs::Text::why_text))]
+#[tactic(auto, unfolding(crate::specs::Text::damage_line))]
 fn write_cell_digest<K: Sink>(
     sink: &mut K,
     at: u64,
@@ -64,7 +64,7 @@ fn write_cell_digest<K: Sink>(
     )
 }
 
-#[tactic(auto, unfolding(crate::specs::Text::damage_line, crate::specs::Text::why_text))]
+#[tactic(auto, unfolding(crate::specs::Text::damage_line))]
 fn write_cell_field<K: Sink>(sink: &mut K, at: u64, offset: u32, got: u64) -> Result<(), SinkFault>
     ensures { Sends (damage_line (Cell at (Field offset got))) result (K.view sink.old) (K.view sink.new) }
 {

@@ -138,7 +138,7 @@ fn write_clash<Q: Sink>(notes: &mut Q, key: &[u8; 33], at: &Difference) -> Resul
     }
 }
 
-#[tactic(auto, unfolding(crate::specs::Text::fault_line, crate::specs::Text::ending_text, crate::specs::Text::refusal_text, crate::specs::Text::difference_text))]
+#[tactic(auto, unfolding(crate::specs::Text::fault_line, crate::specs::Text::ending_text, crate::specs::Text::refusal_text))]
 fn write_clash_length<Q: Sink>(
     notes: &mut Q,
     key: &[u8; 33],
@@ -351,7 +351,7 @@ fn write_damaged<Q: Sink>(notes: &mut Q, at: u64, why: &Why) -> Result<(), SinkF
     }
 }
 
-#[tactic(auto, unfolding(crate::specs::Text::fault_line, crate::specs::Text::ending_text, crate::specs::Text::refusal_text, crate::specs::Text::why_text))]
+#[tactic(auto, unfolding(crate::specs::Text::fault_line, crate::specs::Text::ending_text, crate::specs::Text::refusal_text))]
 fn write_damaged_digest<Q: Sink>(
     notes: &mut Q,
     at: u64,
@@ -378,7 +378,7 @@ fn write_damaged_digest<Q: Sink>(
     )
 }
 
-#[tactic(auto, unfolding(crate::specs::Text::fault_line, crate::specs::Text::ending_text, crate::specs::Text::refusal_text, crate::specs::Text::why_text))]
+#[tactic(auto, unfolding(crate::specs::Text::fault_line, crate::specs::Text::ending_text, crate::specs::Text::refusal_text))]
 fn write_damaged_field<Q: Sink>(
     notes: &mut Q,
     at: u64,

@@ -14,7 +14,7 @@ use Rattle.ingest_session.proofs.Offered.{offered_are_pieces}
 use Rattle.ingest_session.proofs.SealsSome.{offer_kinds}
 use Rattle.ingest_session.proofs.Waiting.{session_of}
 use Rattle.store_model.specs.Collisions.{IsAmong, IsIn}
-use Rattle.store_core.specs.Runs.{AreAmong}
+use Rattle.store_core.specs.Runs.{FileRun, AreAmong}
 use Rattle.session_turns.specs.Owning.{Beside, Given, StepsOfTurns, Ingests, IngestsBeside, IsCutOf, StoppedTurnsAreSteps, Turned, TurnsAreSteps}
 use Rattle.store_core.specs.State.{IsRunning}
 use Rattle.session_turns.specs.Turns.{core_does}
@@ -101,7 +101,7 @@ module _ (C : Type 0) (state : C → CoreState) (among : ByteSet) (actor : ℕ) 
   IsCut h x = (bytes : List ℕ) → IsCutOf h.given x.ended bytes → S bytes
 
   abbrev Goes : List FileEvent → List ℕ → SessionState → C → C → Type 0
-  Goes fs given t old new = StepsOfTurns C state S actor fs given t old new
+  Goes fs given t old new = StepsOfTurns (λ steps. FileRun C state S steps old new) actor fs given t
 
   cut_still : (h k : History) (x y : SessionState) → k.given ≡ h.given → y.ended ≡ x.ended → IsCut h x → IsCut k y
   cut_still h k x y given ended cut bytes is = cut bytes (subst (λ (g : List ℕ). IsCutOf g x.ended bytes) given (subst (λ (b : Bool). IsCutOf k.given b bytes) ended is))
@@ -192,11 +192,12 @@ ingests_beside actor fs (g ∷ gs) h so all =
 module _ (C : Type 0) (state : C → CoreState) where
   pub turns_are_steps : TurnsAreSteps C state
   turns_are_steps among fs actor answers s t h old new cut has so run =
-      go C state among actor h.given t t new new (λ gs k is cut_now has_now so_now. subst (λ (g : List ℕ). StepsOfTurns C state (IsIn among) actor gs g t new new) is
+      go C state among actor h.given t t new new (λ gs k is cut_now has_now so_now.
+      subst (λ (g : List ℕ). StepsOfTurns (λ steps. FileRun C state (IsIn among) steps new new) actor gs g t) is
       (rests C state among actor gs k t new new has_now so_now refl)) answers fs h s old refl cut has so run
 
   pub stopped_turns_are_steps : StoppedTurnsAreSteps C state
   stopped_turns_are_steps among fs actor refusal s t h old new cut has so stopped =
       go C state among actor h.given stopped.1 t stopped.2 new
-      (λ gs k is cut_now has_now so_now. subst (λ (g : List ℕ). StepsOfTurns C state (IsIn among) actor gs g t stopped.2 new) is
+      (λ gs k is cut_now has_now so_now. subst (λ (g : List ℕ). StepsOfTurns (λ steps. FileRun C state (IsIn among) steps stopped.2 new) actor gs g t) is
       (stops C state among actor refusal gs k stopped.1 t stopped.2 new cut_now has_now so_now stopped.4)) stopped.0 fs h s old refl cut has so stopped.3

@@ -182,12 +182,11 @@ IngestedCommitIsRight C state = (among : ByteSet) (fs : List FileEvent) (s : Sto
 abbrev pub IsCutOf : List ℕ → Bool → List ℕ → Type 0
 IsCutOf given ended bytes = (more : List ℕ) → (ended ≡ true → more ≡ []) → IsSegmentOf (given ++ more) bytes
 
--- Steps of one actor, and what was done with its session by then.
-pub record StepsOfTurns (C : Type 0) (state : C → CoreState) (S : List ℕ → Type 0) (actor : ℕ) (fs : List FileEvent) (given : List ℕ)
-    (t : SessionState) (old new : C) : Type 0 where
+-- Steps of one actor, which were run, and what was done with its session by then.
+pub record StepsOfTurns (R : List FileEvent → Type 0) (actor : ℕ) (fs : List FileEvent) (given : List ℕ) (t : SessionState) : Type 0 where
   pub steps : List FileEvent
   pub own : AllByRecursion (λ f. f.event.actor ≡ actor) steps
-  pub run : FileRun C state S steps old new
+  pub run : R steps
   pub history : History
   pub has : HasHistory t history
   pub given_is : history.given ≡ given
@@ -198,11 +197,11 @@ abbrev pub TurnsAreSteps : (C : Type 0) → (C → CoreState) → Type 0
 TurnsAreSteps C state = (among : ByteSet) (fs : List FileEvent) (actor : ℕ) (answers : List Answer) (s t : SessionState) (h : History)
     (old new : C)
     → ((bytes : List ℕ) → IsCutOf h.given s.ended bytes → IsIn among bytes) → HasHistory s h → Ingests actor fs h
-    → TurnRun C state actor answers s t old new → StepsOfTurns C state (IsIn among) actor fs h.given t old new
+    → TurnRun C state actor answers s t old new → StepsOfTurns (λ steps. FileRun C state (IsIn among) steps old new) actor fs h.given t
 
 -- So it is where the last of them was refused.
 abbrev pub StoppedTurnsAreSteps : (C : Type 0) → (C → CoreState) → Type 0
 StoppedTurnsAreSteps C state = (among : ByteSet) (fs : List FileEvent) (actor : ℕ) (refusal : Refusal) (s t : SessionState) (h : History)
     (old new : C)
     → ((bytes : List ℕ) → IsCutOf h.given s.ended bytes → IsIn among bytes) → HasHistory s h → Ingests actor fs h
-    → TurnsStopped C state actor refusal s t old new → StepsOfTurns C state (IsIn among) actor fs h.given t old new
+    → TurnsStopped C state actor refusal s t old new → StepsOfTurns (λ steps. FileRun C state (IsIn among) steps old new) actor fs h.given t

@@ -22,8 +22,8 @@ loop-slot-init g c =
       long = c.requires.length;
       room = c.requires.room;
       reads = reads_none v;
-      found = subst (λ (n : ℕ). Finds line (slots_found c.args.slots 0 []) (slots_found n 0 c.args.ids.items) v v k k t t) all
-          (subst (λ (l : List ℕ). Finds line (slots_found c.args.slots 0 []) (slots_found c.args.slots 0 l) v v k k t t) (sym c.requires.none)
+      found = subst (λ (n : ℕ). Finds line (slots_found c.args.slots 0 []) (slots_found n 0 c.args.ids.items) v v (k, t) (k, t)) all
+          (subst (λ (l : List ℕ). Finds line (slots_found c.args.slots 0 []) (slots_found c.args.slots 0 l) v v (k, t) (k, t)) (sym c.requires.none)
           (finds_none line (slots_found c.args.slots 0 []) v k t));
     }
 
@@ -60,10 +60,10 @@ loop-slot-preserved g c =
           (slots_found (c.args.slots - (c.loop-slot.slot + 1)) (c.loop-slot.slot + 1) c.inspect_slot.new.ids.items) c.inspect_slot.new.tally
           (subst (λ (m : ℕ). Finds line (slots_found (c.args.slots - c.loop-slot.slot) c.loop-slot.slot c.loop-slot.ids.items)
           (slots_found (c.args.slots - m) m c.inspect_slot.new.ids.items)
-          (view c.loop-slot.disk) (view c.inspect_slot.new.disk) (take c.loop-slot.sink) (take c.inspect_slot.new.sink) c.loop-slot.tally c.inspect_slot.new.tally) next
+          (view c.loop-slot.disk) (view c.inspect_slot.new.disk) (take c.loop-slot.sink, c.loop-slot.tally) (take c.inspect_slot.new.sink, c.inspect_slot.new.tally)) next
           (subst (λ (n : ℕ). Finds line (slots_found n c.loop-slot.slot c.loop-slot.ids.items)
           (slots_found (c.args.slots - suc c.loop-slot.slot) (suc c.loop-slot.slot) c.inspect_slot.new.ids.items)
-          (view c.loop-slot.disk) (view c.inspect_slot.new.disk) (take c.loop-slot.sink) (take c.inspect_slot.new.sink) c.loop-slot.tally c.inspect_slot.new.tally) left
+          (view c.loop-slot.disk) (view c.inspect_slot.new.disk) (take c.loop-slot.sink, c.loop-slot.tally) (take c.inspect_slot.new.sink, c.inspect_slot.new.tally)) left
           (c.in_ok-inspect_slot.ensures.found (c.args.slots - suc c.loop-slot.slot))));
     }
 

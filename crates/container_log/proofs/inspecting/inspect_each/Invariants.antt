@@ -12,5 +12,5 @@ invariant-loop-slot g l = record {
   room : MOST_ENTRIES ≤ vec_capacity l.entries;
   reads : Reads Done (g.D.Disk.view l.fn.disk) (g.D.Disk.view l.disk);
   found : Finds g.S.SpellsDamage.line (slots_found l.slots 0 []) (slots_found (l.slots - l.slot) l.slot l.ids.items)
-      (g.D.Disk.view l.fn.disk) (g.D.Disk.view l.disk) (g.K.Sink.view l.fn.sink) (g.K.Sink.view l.sink) l.fn.tally l.tally;
+      (g.D.Disk.view l.fn.disk) (g.D.Disk.view l.disk) (g.K.Sink.view l.fn.sink, l.fn.tally) (g.K.Sink.view l.sink, l.tally);
 }

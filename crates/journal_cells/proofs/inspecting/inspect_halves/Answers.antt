@@ -25,14 +25,14 @@ returns-clause-found g c =
     let take = g.K.Sink.view in
     let said = selectors_in c.args.first.now c.args.second.now in
     let first = finds_first line (half_found 0 c.args.first.now (says_half 0 said)) (half_found 1 c.args.second.now (says_half 1 said)) _ _ _ _ _ _
-    (subst (λ (b : Bool). Finds line (half_found 0 c.args.first.now b) (λ image. nothing) (view c.args.disk.now) (view c.inspect_half.new.disk) (take c.args.sink.now)
-    (take c.inspect_half.new.sink) c.args.tally.now c.inspect_half.new.tally) c.says_half.ensures
+    (subst (λ (b : Bool). Finds line (half_found 0 c.args.first.now b) (λ image. nothing) (view c.args.disk.now) (view c.inspect_half.new.disk)
+    (take c.args.sink.now, c.args.tally.now) (take c.inspect_half.new.sink, c.inspect_half.new.tally)) c.says_half.ensures
     c.in_ok-inspect_half.ensures.found) in
     ok_map c.inspect_half-2.result (λ (second : Finds line (half_found 1 c.args.second.now c.says_half-2.result) (λ image. nothing) (view c.inspect_half.new.disk)
-    (view c.inspect_half-2.new.disk) (take c.inspect_half.new.sink) (take c.inspect_half-2.new.sink) c.inspect_half.new.tally c.inspect_half-2.new.tally).
+    (view c.inspect_half-2.new.disk) (take c.inspect_half.new.sink, c.inspect_half.new.tally) (take c.inspect_half-2.new.sink, c.inspect_half-2.new.tally)).
     finds_on line _ _ _ _ _ _ _ _ _ _ first c.in_ok-inspect_half.ensures.reads.only c.inspect_half-2.ensures.reads.only.later (λ image. nothing) _
     (subst (λ (b : Bool). Finds line (half_found 1 c.args.second.now b) (λ image. nothing) (view c.inspect_half.new.disk) (view c.inspect_half-2.new.disk)
-    (take c.inspect_half.new.sink) (take c.inspect_half-2.new.sink) c.inspect_half.new.tally c.inspect_half-2.new.tally) c.says_half-2.ensures
+    (take c.inspect_half.new.sink, c.inspect_half.new.tally) (take c.inspect_half-2.new.sink, c.inspect_half-2.new.tally)) c.says_half-2.ensures
     second)) c.inspect_half-2.ensures.found
 
 pub returns-clause-stopped : goal.returns-clause-stopped
@@ -42,8 +42,8 @@ returns-clause-stopped g c =
     let take = g.K.Sink.view in
     let said = selectors_in c.args.first.now c.args.second.now in
     let first = finds_first line (half_found 0 c.args.first.now (says_half 0 said)) (half_found 1 c.args.second.now (says_half 1 said)) _ _ _ _ _ _
-    (subst (λ (b : Bool). Finds line (half_found 0 c.args.first.now b) (λ image. nothing) (view c.args.disk.now) (view c.inspect_half.new.disk) (take c.args.sink.now)
-    (take c.inspect_half.new.sink) c.args.tally.now c.inspect_half.new.tally) c.says_half.ensures
+    (subst (λ (b : Bool). Finds line (half_found 0 c.args.first.now b) (λ image. nothing) (view c.args.disk.now) (view c.inspect_half.new.disk)
+    (take c.args.sink.now, c.args.tally.now) (take c.inspect_half.new.sink, c.inspect_half.new.tally)) c.says_half.ensures
     c.in_ok-inspect_half.ensures.found) in
     map_err c.inspect_half-2.result _ _ (λ halt is.
     stops_on line _ _ _ _ _ _ _ _ _ _ first c.in_ok-inspect_half.ensures.reads.only c.inspect_half-2.ensures.reads.only.later halt

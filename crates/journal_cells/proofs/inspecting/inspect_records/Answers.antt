@@ -16,7 +16,7 @@ loop-init g c =
       count = ap (λ (r : Replay). r.count) c.new-before.ensures;
       reads = reads_none v;
       found = λ counts. subst (λ (r : Replay). Finds line (records_found c.args.half counts half_cells nothing_yet) (records_found c.args.half counts (half_cells - r.count) r) v v
-          k k t t) (sym c.new-before.ensures)
+          (k, t) (k, t)) (sym c.new-before.ensures)
           (finds_none line (records_found c.args.half counts half_cells nothing_yet) v k t);
     }
 
@@ -35,7 +35,7 @@ returns-then-not-branch-clause-found g c = λ counts.
     let next = subst (λ (b : Bool). Finds line (records_found c.args.half counts (half_cells - c.loop.before.count) (replay c.loop.before))
     (if b then records_found c.args.half counts (half_cells - c.inspect_next.new.before.count) (replay c.inspect_next.new.before) else past_found c.args.half counts
     c.inspect_next.new.before.count)
-    (view c.loop.disk) (view c.inspect_next.new.disk) (take c.loop.sink) (take c.inspect_next.new.sink) c.loop.tally c.inspect_next.new.tally) c.if-not-branch.true
+    (view c.loop.disk) (view c.inspect_next.new.disk) (take c.loop.sink, c.loop.tally) (take c.inspect_next.new.sink, c.inspect_next.new.tally)) c.if-not-branch.true
     (c.in_ok-inspect_next.ensures.found counts) in
     finds_on line _ _ _ _ _ _ _ _ _ _ (c.loop.invariant.found counts) c.loop.invariant.reads.only c.in_ok-inspect_next.ensures.reads.only.later
     (past_found c.args.half counts c.inspect_next.new.before.count) c.inspect_next.new.tally next
@@ -54,7 +54,7 @@ loop-preserved g c =
           let next = subst (λ (b : Bool). Finds line (records_found c.args.half counts (half_cells - c.loop.before.count) (replay c.loop.before))
           (if b then records_found c.args.half counts (half_cells - c.inspect_next.new.before.count) (replay c.inspect_next.new.before) else past_found c.args.half counts
           c.inspect_next.new.before.count)
-          (view c.loop.disk) (view c.inspect_next.new.disk) (take c.loop.sink) (take c.inspect_next.new.sink) c.loop.tally c.inspect_next.new.tally) c.if-not-branch.false
+          (view c.loop.disk) (view c.inspect_next.new.disk) (take c.loop.sink, c.loop.tally) (take c.inspect_next.new.sink, c.inspect_next.new.tally)) c.if-not-branch.false
           (c.in_ok-inspect_next.ensures.found counts) in
           finds_on line _ _ _ _ _ _ _ _ _ _ (c.loop.invariant.found counts) c.loop.invariant.reads.only c.in_ok-inspect_next.ensures.reads.only.later
           (records_found c.args.half counts (half_cells - c.inspect_next.new.before.count) (replay c.inspect_next.new.before)) c.inspect_next.new.tally next;

@@ -10,5 +10,5 @@ invariant-loop g l = record {
   reads : Reads Done (g.D.Disk.view l.fn.disk) (g.D.Disk.view l.disk);
   found : (counts : Bool) → Finds g.S.SpellsDamage.line (records_found l.half counts half_cells nothing_yet)
       (records_found l.half counts (half_cells - l.before.count) (replay l.before))
-      (g.D.Disk.view l.fn.disk) (g.D.Disk.view l.disk) (g.K.Sink.view l.fn.sink) (g.K.Sink.view l.sink) l.fn.tally l.tally;
+      (g.D.Disk.view l.fn.disk) (g.D.Disk.view l.disk) (g.K.Sink.view l.fn.sink, l.fn.tally) (g.K.Sink.view l.sink, l.tally);
 }

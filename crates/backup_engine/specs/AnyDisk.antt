@@ -39,7 +39,7 @@ use Rattle.merkle_file.specs.Walk.{start_of}
 use Rattle.refusals.specs.declared.refusal.Refusal.{Refusal}
 use Rattle.refusals.specs.declared.refusal.Refusal.TheVariants.{Memory, DiskRead, DiskWrite, Numbers, Damaged}
 use Rattle.reply_text.specs.declared.ending.Ending.{Ending}
-use Rattle.reply_text.specs.declared.ending.Ending.TheVariants.{Words, Source, Sink, Line, Script, Refused}
+use Rattle.reply_text.specs.declared.ending.Ending.TheVariants.{Source, Sink, Refused}
 use Rattle.reply_text.specs.Text.{formatted_line, stored_line, deleted_line, listing_text}
 use Rattle.store_model.specs.Image.{Store, Encodes, names_of, last_sequence}
 use Rattle.store_model.specs.Pieces.{Node, IsPieceOf}
@@ -63,7 +63,7 @@ use Rattle.backup_engine.specs.Collected.{IsOfCollection, collected_line}
 use Rattle.backup_engine.specs.Line.{CommandLine, Format, Ingest, Restore, Delete, Collect, name_of}
 use Rattle.backup_engine.specs.Line as table
 use Rattle.backup_engine.specs.Causes.{HasNumbers, Room, room, RefusesIngest, RefusesRestore, RefusesDelete, MayDelete, HasAll}
-use Rattle.backup_engine.specs.Promise.{WroteReply}
+use Rattle.backup_engine.specs.Promise.{ByDone, WroteReply}
 use Rattle.backup_engine.specs.Seen.{Devices}
 
 -- ---- what reads showed
@@ -258,29 +258,21 @@ IsUncollected {disk} {disk_now} holds refusal =
 -- Why a command is refused. A call of the disk that failed is told by its count of faults.
 abbrev pub IsRefused : CommandLine → List ℕ → Devices → Refusal → Type 0
 IsRefused (Format slots) given saw refusal = IsFormatRefusal (Shows saw.disk saw.disk_now) saw.disk.size slots refusal
-IsRefused (Ingest name) given saw DiskRead = Unit {0}
-IsRefused (Ingest name) given saw DiskWrite = Unit {0}
+IsRefused command given saw DiskRead = Unit {0}
+IsRefused command given saw DiskWrite = Unit {0}
 IsRefused (Ingest name) given saw refusal =
     (IsOpenRefusal (Shows saw.disk saw.disk_now) saw.disk.size refusal × (saw.source_now.left ≡ saw.source.left))
     ⊎ ((added : HasAdded given saw.disk saw.disk_now)
     × (RefusesIngest name given (room_in (Ingest name) added.after) refusal
     ⊎ IsUnlikeNode given added.after (ReadsSince saw.disk saw.disk_now) refusal))
-IsRefused (Restore name) given saw DiskRead = Unit {0}
-IsRefused (Restore name) given saw DiskWrite = Unit {0}
 IsRefused (Restore name) given saw refusal =
     IsOpenRefusal (Shows saw.disk saw.disk_now) saw.disk.size refusal
     ⊎ ((holds : Holds saw.disk saw.disk_now) × RefusesRestore name (room_in (Restore name) holds.store) refusal)
     ⊎ ((given : GivesBack name (Some (Refused refusal)) saw.disk saw.disk_now saw.sink saw.sink_now) × IsStuck given refusal)
-IsRefused (Delete name) given saw DiskRead = Unit {0}
-IsRefused (Delete name) given saw DiskWrite = Unit {0}
 IsRefused (Delete name) given saw refusal =
     IsOpenRefusal (Shows saw.disk saw.disk_now) saw.disk.size refusal
     ⊎ ((holds : Holds saw.disk saw.disk_now) × RefusesDelete name (room_in (Delete name) holds.store) refusal)
-IsRefused table.List given saw DiskRead = Unit {0}
-IsRefused table.List given saw DiskWrite = Unit {0}
 IsRefused table.List given saw refusal = IsOpenRefusal (Shows saw.disk saw.disk_now) saw.disk.size refusal
-IsRefused (Collect percent) given saw DiskRead = Unit {0}
-IsRefused (Collect percent) given saw DiskWrite = Unit {0}
 IsRefused (Collect percent) given saw refusal =
     IsOpenRefusal (Shows saw.disk saw.disk_now) saw.disk.size refusal
     ⊎ ((holds : Holds saw.disk saw.disk_now) × IsUncollected holds refusal)
@@ -305,21 +297,17 @@ pub record IsDeleted (name : List ℕ) (disk disk_now : DiskView) : Type 0 where
 abbrev pub IsDone : CommandLine → List ℕ → DiskView → DiskView → Type 0
 IsDone (Format slots) given disk disk_now = Formats slots disk disk_now
 IsDone (Ingest name) given disk disk_now = IsStored name given disk disk_now
-IsDone (Restore name) given disk disk_now = Unit {0}
 IsDone (Delete name) given disk disk_now = IsDeleted name disk disk_now
-IsDone table.List given disk disk_now = Unit {0}
-IsDone (Collect percent) given disk disk_now = Unit {0}
+IsDone command given disk disk_now = Unit {0}
 
 abbrev pub IsCaused : CommandLine → List ℕ → Devices → Option Ending → Type 0
 IsCaused command given saw None = IsDone command given saw.disk saw.disk_now
-IsCaused command given saw (Some Words) = ⊥
-IsCaused command given saw (Some (Line number)) = ⊥
-IsCaused command given saw (Some Script) = ⊥
 IsCaused command given saw (Some Source) =
     ((name : List ℕ) × (command ≡ Ingest name)) × HasAdded given saw.disk saw.disk_now × Rose saw.source.faults saw.source_now.faults
 IsCaused command given saw (Some Sink) = IsDone command given saw.disk saw.disk_now × Rose saw.sink.faults saw.sink_now.faults
 IsCaused command given saw (Some (Refused Memory)) = Unit {0}
 IsCaused command given saw (Some (Refused refusal)) = IsRefused command given saw refusal
+IsCaused command given saw (Some ending) = ⊥
 
 -- ---- what was written, and taken
 
@@ -336,32 +324,20 @@ SaysSwept ending disk disk_now sink sink_now =
 abbrev pub WroteOnAny : CommandLine → List ℕ → Option Ending → DiskView → DiskView → SinkView → SinkView → Type 0
 WroteOnAny (Format slots) given ending disk disk_now sink sink_now = WroteReply (formatted_line slots) ending sink sink_now
 WroteOnAny (Ingest name) given ending disk disk_now sink sink_now = WroteReply (stored_line name (root_of given)) ending sink sink_now
-WroteOnAny (Restore name) given None disk disk_now sink sink_now = GivesBack name None disk disk_now sink sink_now
-WroteOnAny (Restore name) given (Some Sink) disk disk_now sink sink_now = GivesBack name (Some Sink) disk disk_now sink sink_now
-WroteOnAny (Restore name) given (Some ending) disk disk_now sink sink_now =
-    (sink_now.written ≡ sink.written) ⊎ GivesBack name (Some ending) disk disk_now sink sink_now
+WroteOnAny (Restore name) given ending disk disk_now sink sink_now =
+    ByDone ending (GivesBack name ending disk disk_now sink sink_now)
+    ((sink_now.written ≡ sink.written) ⊎ GivesBack name ending disk disk_now sink sink_now)
 WroteOnAny (Delete name) given ending disk disk_now sink sink_now = WroteReply (deleted_line name) ending sink sink_now
-WroteOnAny table.List given None disk disk_now sink sink_now = ListsNames None disk disk_now sink sink_now
-WroteOnAny table.List given (Some Sink) disk disk_now sink sink_now = ListsNames (Some Sink) disk disk_now sink sink_now
-WroteOnAny table.List given (Some ending) disk disk_now sink sink_now = sink_now.written ≡ sink.written
-WroteOnAny (Collect percent) given None disk disk_now sink sink_now = SaysSwept None disk disk_now sink sink_now
-WroteOnAny (Collect percent) given (Some Sink) disk disk_now sink sink_now = SaysSwept (Some Sink) disk disk_now sink sink_now
-WroteOnAny (Collect percent) given (Some ending) disk disk_now sink sink_now = sink_now.written ≡ sink.written
+WroteOnAny table.List given ending disk disk_now sink sink_now =
+    ByDone ending (ListsNames ending disk disk_now sink sink_now) (sink_now.written ≡ sink.written)
+WroteOnAny (Collect percent) given ending disk disk_now sink sink_now =
+    ByDone ending (SaysSwept ending disk disk_now sink sink_now) (sink_now.written ≡ sink.written)
 
--- it was read to its end, where the command was done, but perhaps for its reply
-abbrev pub IsReadToEnd : Option Ending → SourceView → Type 0
-IsReadToEnd None source_now = source_now.left ≡ Some []
-IsReadToEnd (Some Sink) source_now = source_now.left ≡ Some []
-IsReadToEnd (Some ending) source_now = Unit {0}
-
--- What the source gave: for `ingest` all that it had left, where it tells. No other command reads it.
+-- What the source gave: for `ingest` all that it had left, where it tells, to its end where it was done. No other command reads it.
 abbrev pub Took : CommandLine → List ℕ → Option Ending → SourceView → SourceView → Type 0
-Took (Format slots) given ending source source_now = (given ≡ []) × (source_now.left ≡ source.left)
-Took (Ingest name) given ending source source_now = Known source.left (λ all. (given ≡ all) × IsReadToEnd ending source_now)
-Took (Restore name) given ending source source_now = (given ≡ []) × (source_now.left ≡ source.left)
-Took (Delete name) given ending source source_now = (given ≡ []) × (source_now.left ≡ source.left)
-Took table.List given ending source source_now = (given ≡ []) × (source_now.left ≡ source.left)
-Took (Collect percent) given ending source source_now = (given ≡ []) × (source_now.left ≡ source.left)
+Took (Ingest name) given ending source source_now =
+    Known source.left (λ all. (given ≡ all) × ByDone ending (source_now.left ≡ Some []) (Unit {0}))
+Took command given ending source source_now = (given ≡ []) × (source_now.left ≡ source.left)
 
 -- ---- all of it
 
@@ -380,12 +356,8 @@ IsSettledDisk disk_now = (slots : ℕ) → disk_now.size ≡ size_of slots → I
 abbrev pub EndsDurable : CommandLine → Option Ending → DiskView → Type 0
 EndsDurable (Restore name) ending disk_now = Unit {0}
 EndsDurable table.List ending disk_now = Unit {0}
-EndsDurable (Collect percent) None disk_now = IsSettledDisk disk_now
-EndsDurable (Collect percent) (Some Sink) disk_now = IsSettledDisk disk_now
-EndsDurable (Collect percent) (Some ending) disk_now = Unit {0}
-EndsDurable command None disk_now = IsDurable disk_now
-EndsDurable command (Some Sink) disk_now = IsDurable disk_now
-EndsDurable command (Some ending) disk_now = Unit {0}
+EndsDurable (Collect percent) ending disk_now = ByDone ending (IsSettledDisk disk_now) (Unit {0})
+EndsDurable command ending disk_now = ByDone ending (IsDurable disk_now) (Unit {0})
 
 -- Each ending has its cause; the disk's count of faults rose where a call of it is blamed, and else is as it was.
 pub record OnAnyDisk (command : CommandLine) (given : List ℕ) (ending : Option Ending) (saw : Devices) : Type 0 where

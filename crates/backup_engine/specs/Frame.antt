@@ -21,8 +21,7 @@ use Rattle.reply_text.specs.declared.ending.Ending.{Ending}
 use Rattle.store_machine.specs.Commands.{Replied}
 use Rattle.core_machine.specs.Bytes.{SameJournal}
 use Rattle.script_runner.specs.Frame.{KeepsOver, NeverSweeps}
-use Rattle.backup_engine.specs.Line.{CommandLine, Format, Ingest, Restore, Delete, Collect}
-use Rattle.backup_engine.specs.Line as table
+use Rattle.backup_engine.specs.Line.{CommandLine, Format, Ingest, Delete, Collect}
 use Rattle.backup_engine.specs.Promise.{LeavesMeanwhile, MayChange}
 
 -- The content held a store that is opened. The format cell is as it was, and each container slot that was open. So is the journal
@@ -89,10 +88,9 @@ pub record KeepsButSweep (old new : List ℕ) : Type 0 where
 abbrev pub KeepsRest : CommandLine → Option Ending → List ℕ → List ℕ → Type 0
 KeepsRest (Format slots) ending old new = byte_at 0 old ≡ FORMAT_GATE → new ≡ old
 KeepsRest (Ingest name) ending old new = (new ≡ old) ⊎ KeepsOpen name ending old new
-KeepsRest (Restore name) ending old new = new ≡ old
 KeepsRest (Delete name) ending old new = (new ≡ old) ⊎ KeepsButRecord name ending old new
-KeepsRest table.List ending old new = new ≡ old
 KeepsRest (Collect percent) ending old new = (new ≡ old) ⊎ KeepsButSweep old new
+KeepsRest command ending old new = new ≡ old
 
 -- And so it is of what a crash leaves at any moment, but for what one might have left before.
 pub record KeepsOthers (command : CommandLine) (ending : Option Ending) (disk disk_now : DiskView) : Type 0 where

@@ -16,6 +16,12 @@ MayChange (Some Sink) = Unit {0}
 MayChange (Some (Refused DiskWrite)) = Unit {0}
 MayChange (Some ending) = ⊥
 
+-- where it was done, but perhaps for its reply, P holds, and else Q
+abbrev pub ByDone : Option Ending → Type 0 → Type 0 → Type 0
+ByDone None P Q = P
+ByDone (Some Sink) P Q = P
+ByDone (Some ending) P Q = Q
+
 -- ---- what was written
 
 -- of a reply: all of it, or a first part where the sink failed, or nothing where the command was not done

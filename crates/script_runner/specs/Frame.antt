@@ -1,5 +1,6 @@
 -- What lines leave of the bytes of the disk, whatever its containers hold (docs/MODEL.md, 'Scripts').
 use Rattle.std.specs.Prelude.{◌≡◌, ◌≢◌, ◌≤◌, ℕ, ◌+◌, List, [], ◌∷◌, Some}
+use Rattle.std.specs.List.{AllByRecursion}
 use Rattle.base_model.specs.Known.{KnownWith}
 use Rattle.dd_disk.specs.Ending.{Done, Reads}
 use Rattle.dd_disk.specs.Shows.{Shows}
@@ -30,8 +31,7 @@ commands_among (one ∷ more) = commands_of_line one.line + commands_among more
 
 -- none of the lines opens the store again
 abbrev pub NeverReopens : List Replied → Type 0
-NeverReopens [] = Unit {0}
-NeverReopens (one ∷ more) = (one.line ≢ lines.Reopen) × NeverReopens more
+NeverReopens = AllByRecursion (λ one. one.line ≢ lines.Reopen)
 
 -- none of them makes steps of a collection
 abbrev pub IsNoSweep : LineValue → Type 0
@@ -40,8 +40,7 @@ IsNoSweep lines.Sweep = ⊥
 IsNoSweep line = Unit {0}
 
 abbrev pub NeverSweeps : List Replied → Type 0
-NeverSweeps [] = Unit {0}
-NeverSweeps (one ∷ more) = IsNoSweep one.line × NeverSweeps more
+NeverSweeps = AllByRecursion (λ one. IsNoSweep one.line)
 
 -- The half that counts has a cell for each of the lines that may need one, and the store is not opened again between them: so they need
 -- no checkpoint.

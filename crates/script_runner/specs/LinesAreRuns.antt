@@ -177,7 +177,8 @@ pub record RunsByRoots (rs : List Replied) (disk disk_now : DiskView) : Type 0 w
   pub steps : List (Stepped Root)
   pub next : RootDesk
   pub lines_are : Lines of_roots rs steps (desk opened) next
-  pub found : AllOpened of_roots (λ m. beside_roots.Finds m disk disk_now) rs steps (desk opened) next lines_are
+  pub found : AllOpened of_roots (λ m. IsNamedBy of_roots m.now m.store × WasShown disk disk_now m.store) rs steps (desk opened) next
+      lines_are
 
 -- So are lines that are run over a core that was opened just now, where no actor gives a file yet.
 abbrev pub OpenedRunsByRoots : (D : Type 0) → (D → DiskView) → (C : Type 0) → (C → CoreState) → Type 0

@@ -102,7 +102,8 @@ module _ (S : List ℕ → Type 0) (command : CommandLine) (given : List ℕ) (r
     (running : m.state ≡ Running) (law : ComesByMap command) (through : Through (command_of command))
     (keeps : (runs : RunsByFiles S rs m v w) → KeepsBytes command (all_lines S rs m v w runs) m (last S rs m v w runs) v w) where
   -- lines were run
-  said_answers : (ending : Option Ending) → Says command given ending rs sink sink_now → RunsByFiles S rs m v w → AnswersByMap S command given rs ending m (disk_and_sink v sink) (disk_and_sink w sink_now)
+  said_answers : (ending : Option Ending) → Says command given ending rs sink sink_now → RunsByFiles S rs m v w
+      → AnswersByMap S command given rs ending m (disk_and_sink v sink) (disk_and_sink w sink_now)
   said_answers ending says runs =
       let are : AreLinesOf (command_of command) (all_lines S rs m v w runs) = (refl, says.follow runs.files) in
       let comes = law (all_lines S rs m v w runs) (all_steps S rs m v w runs) m runs.next running are (ran S rs m v w runs) in
@@ -159,7 +160,8 @@ module _ (S : List ℕ → Type 0) (command : CommandLine) (given : List ℕ) (r
         let at : MayBeFound of_files (freeing of_files stores m.state) m.now x = subst (λ (k : FileMachine). MayBeFound of_files k.state k.now x) is may in
         subst (λ (state : RunState (List ℕ)). MayBeFound of_files (freeing of_files stores state) m.now x) running at
 
-    unopened_answers : RefusedByFiles S (Some (Refused refusal)) rs m v w → AnswersByMap S command given rs (Some (Refused refusal)) m (disk_and_sink v sink) (disk_and_sink w sink_now)
+    unopened_answers : RefusedByFiles S (Some (Refused refusal)) rs m v w
+        → AnswersByMap S command given rs (Some (Refused refusal)) m (disk_and_sink v sink) (disk_and_sink w sink_now)
     unopened_answers refused =
         let reason : refused.refusal ≡ refusal = (let both : Some (Refused refused.refusal) ≡ Some (Refused refusal) = sym refused.ending_is in cc) in
         let opens : Reopens 0 (Err refusal) m refused.next = subst (λ (r : Refusal). Reopens 0 (Err r) m refused.next) reason refused.opens in
@@ -212,7 +214,8 @@ module _ (D : Type 0) (view : D → DiskView) (command : CommandLine) (law : Com
         | inr none ↦ none_answers none
       ]
     where
-      by : AreSo rs → (rs ≡ []) ⊎ Says command given ending rs sink sink_now → AnswersByMap (IsIn among) command given rs ending m (disk_and_sink (view old) sink) (disk_and_sink (view new) sink_now)
+      by : AreSo rs → (rs ≡ []) ⊎ Says command given ending rs sink sink_now
+          → AnswersByMap (IsIn among) command given rs ending m (disk_and_sink (view old) sink) (disk_and_sink (view new) sink_now)
       by are (inl none) = none_answers (silent are none)
       by are (inr says) = elim (does.by_files among m distinct cuts known) [
         | inl runs ↦ said_answers (IsIn among) command given rs m (view old) (view new) sink sink_now running law through keeps ending says runs

@@ -181,7 +181,8 @@ module _ (percent : ℕ) (v w : DiskView) (source : SourceView) (sink : SinkView
         (omega (arith, below, few)) ∙ is)
 
     since_held : (h : HeaderValue) → Shows old.disk new (λ image. HoldsSlot image slot (Some h)) → ShownSince v w (λ image. HoldsSlot image slot (Some h))
-    since_held h = since_before (λ image. HoldsSlot image slot (Some h)) (λ was image same is. (is.0, same.before (slot_at slot) (header_size h) (omega (arith, below, header_fits h is.0)) ∙ is.1))
+    since_held h = since_before (λ image. HoldsSlot image slot (Some h))
+        (λ was image same is. (is.0, same.before (slot_at slot) (header_size h) (omega (arith, below, header_fits h is.0)) ∙ is.1))
 
     source_header : Came → HasSome slot → (refusal : Refusal) → IsHeaderRefusal old.tables.held old.disk new slot refusal → IsCausedBy refusal
     source_header came some Memory cause = tt

@@ -12,7 +12,7 @@ use Rattle.read_steps.specs.Walking.{bytes_ahead}
 use Rattle.read_steps.proofs.Walks.{given_bytes}
 use Rattle.store_core.specs.Core.{IsGiven as IsSegmentGiven}
 use Rattle.store_core.specs.Runs.{given_by}
-use Rattle.backup_engine.specs.Giving.{bytes_of_part}
+use Rattle.backup_engine.proofs.SoFar.{bytes_of_part}
 use Rattle.backup_engine.proofs.FirstActor.{as_first, by_first, steps_of, first_part, up_of}
 use Rattle.backup_engine.proofs.Kept.{by_error}
 use Rattle.backup_engine.proofs.SinkWrites.{part_sent, fault_counted, all_sent, no_fault}

@@ -65,6 +65,7 @@ pub mod ScriptSteps
 pub mod SealedIndex
 pub mod SinglesRun
 pub mod SinkWrites
+pub mod SoFar
 pub mod SourceRuns
 pub mod Stored
 pub mod SweptBytes

@@ -29,7 +29,8 @@ use Rattle.backup_engine.specs.Seen.{devices, disk_and_sink}
 pub promised : (D : Type 0) (view : D → DiskView) → IsPromised D view
 promised D view c old new alone promise = go c.line alone promise
   where
-    go : (line : Option TableLine) → alone_line line ≡ line → Promise D view line c.status (seen_by c (view old) (view new)) → (ending : Option Ending) × ((given : List ℕ) × ((rs : List Replied)
+    go : (line : Option TableLine) → alone_line line ≡ line → Promise D view line c.status (seen_by c (view old) (view new))
+        → (ending : Option Ending) × ((given : List ℕ) × ((rs : List Replied)
         × KeepsAs D view line (record c { ending = ending; given = given; rs = rs }) (view old) (view new)))
     go None alone promise = promise
     go (Some (Single command)) alone promise = promise

@@ -27,7 +27,7 @@ pub use Rattle.store_machine.specs.CollectsByNeed.{FreesUpTo, written_in}
 pub use Rattle.backup_engine.specs.Collecting.{CollectRun, WritesCollected}
 pub use Rattle.backup_engine.specs.Feeding.{Fills, IsFed, MayBe, SessionLaws, Stops, opens_of}
 pub use Rattle.backup_engine.specs.Frame.{KeepsOthers, KeepsRest, LiesBeside, MayFill, SameButSlotsOf}
-pub use Rattle.backup_engine.specs.Giving.{GivenSoFar, bytes_to_come}
+pub use Rattle.backup_engine.proofs.SoFar.{GivenSoFar, bytes_to_come}
 pub use Rattle.backup_engine.specs.Line.{Check, Collect, CommandLine, Format, Ingest, Restore, Single, TableLine, Work, alone_line, arguments_of, is_number, is_separator}
 pub use Rattle.backup_engine.specs.LineValue.{command_value}
 pub use Rattle.backup_engine.specs.Lines.{lines_of, printed}
@@ -41,7 +41,8 @@ pub use Rattle.backup_engine.specs.Reopening.{HasNoRoom}
 pub use Rattle.backup_engine.specs.Running.{AreWhole, EndsGiving, EndsPut, GiveRun, HoldsPieces, IsAskedFor, IsDoneBefore, IsFresh, IsGiven, IsGivenOut, IsLastPut, IsNoCommit, IsNotOpened, IsOk, IsOneOf, IsPutRefusal, IsPutStep, IsRead, IsWholeAt, PutRun, WroteGiven, WroteLast, seal_by, seals_of}
 pub use Rattle.backup_engine.specs.Saying.{AsksPut, RunsSingle, SaysAll, SaysEnd, SaysPushed, giving, no_sessions}
 pub use Rattle.backup_engine.specs.Script.{IsScriptEnd, KeepsScript, StopsAtReopen, WroteReplies}
-pub use Rattle.backup_engine.specs.ScriptRuns.{EndsReopening, ScriptRun, ScriptSoFar}
+pub use Rattle.backup_engine.specs.ScriptRuns.{EndsReopening, ScriptRun}
+pub use Rattle.backup_engine.proofs.SoFar.{ScriptSoFar}
 pub use Rattle.backup_engine.specs.Singles.{Digits, IsCollect, IsDelete, IsFirstOf, IsIngest, IsListing, IsRestore, Speaks, SpeaksAs, StoresFile, TakenSoFar, collecting, finish_lines, next_lines, push_lines, pushed, refused, said}
 pub use Rattle.backup_engine.specs.Storing.{IngestRun, IsHeard, IsReadOut, IsSourceFault, Replies}
 pub use Rattle.backup_engine.specs.TopCall.{Does, DoesCommand, IsLeftBlank, IsSameDisk, IsUntouched, Keeps, Promise, RunsScript, ending_in}

@@ -74,7 +74,8 @@ module _ (given name : List ℕ) (sink sink_now : SinkView) where
     found = λ files m n comes x may. comes.found x may;
     ended = λ files. (said (lines.Next 0) (replies.End 0), read_last segments (said (lines.Next 0) (replies.End 0)) reads.0 files, tt);
     wrote = λ files m n comes. subst (Appended sink.written sink_now.written)
-        (sym (reads_printed name (said (lines.Next 0) (replies.End 0)) (given_by 0 [] (opened_line files ∷ read_lines segments (said (lines.Next 0) (replies.End 0)) reads.0)) segments ∙ append-nil (concat segments))) wrote;
+        (sym (reads_printed name (said (lines.Next 0) (replies.End 0))
+        (given_by 0 [] (opened_line files ∷ read_lines segments (said (lines.Next 0) (replies.End 0)) reads.0)) segments ∙ append-nil (concat segments))) wrote;
   }))
   restore_says rs (Some Sink) (segments, (bytes, (reads, (part, ((rest, first), wrote))))) =
       inr (read_so (Some Sink) rs segments (said (lines.Next 0) (replies.Bytes 0 bytes)) reads (record {
@@ -86,7 +87,8 @@ module _ (given name : List ℕ) (sink sink_now : SinkView) where
             (machine.printed (machine.Restore name) (given_by 0 [] (opened_line files ∷ read_lines segments (said (lines.Next 0) (replies.Bytes 0 bytes)) reads.0))
             (opened_line files ∷ read_lines segments (said (lines.Next 0) (replies.Bytes 0 bytes)) reads.0)) (concat segments ++ part) rest
             (reads_printed name (said (lines.Next 0) (replies.Bytes 0 bytes))
-            (given_by 0 [] (opened_line files ∷ read_lines segments (said (lines.Next 0) (replies.Bytes 0 bytes)) reads.0)) segments ∙ ap (λ (l : List ℕ). concat segments ++ l) first
+            (given_by 0 [] (opened_line files ∷ read_lines segments (said (lines.Next 0) (replies.Bytes 0 bytes)) reads.0)) segments
+            ∙ ap (λ (l : List ℕ). concat segments ++ l) first
             ∙ sym (append_assoc (concat segments) part rest)) wrote;
       }))
   restore_says rs (Some (Refused refusal)) (inl (memory, none, same)) = inl none

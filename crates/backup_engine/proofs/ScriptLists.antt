@@ -9,7 +9,7 @@ use Rattle.reply_text.specs.declared.ending.Ending.{Ending}
 use Rattle.script_lines.specs.ReplyValue as replies
 use Rattle.script_lines.specs.Script.{IsRightLine, ended}
 use Rattle.backup_engine.specs.Script.{EndsRefused}
-use Rattle.backup_engine.specs.ScriptRuns.{NoneEnds}
+use Rattle.backup_engine.proofs.SoFar.{NoneEnds}
 
 -- ---- one line more
 

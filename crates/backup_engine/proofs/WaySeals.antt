@@ -185,7 +185,8 @@ module _ (C : Type 0) (state : C → CoreState) (files : List ℕ → Type 0) (o
                   places = now;
                   known = (now_told (state old) (state new) sealed made w.indexed w.places w.known).1;
                   indexed = made.runs_indexed w.indexed;
-                  ids = sealed_ids (state old) (state new) sealed made w.indexed w.places w.known (omega (arith, many, sealed_row.some)) (omega (arith, many, sealed_row.last_is, sealed_row.id_is));
+                  ids = sealed_ids (state old) (state new) sealed made w.indexed w.places w.known (omega (arith, many, sealed_row.some))
+                      (omega (arith, many, sealed_row.last_is, sealed_row.id_is));
                   kept = keeps_all;
                   fresh = still_new;
                 } in

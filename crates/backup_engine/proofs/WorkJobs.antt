@@ -15,7 +15,8 @@ jobs_more load first zero = ap (λ (n : ℕ). record { number = n; seed = load.s
 jobs_more load first (suc count) =
     ap (λ (jobs : List Job). record { number = first; seed = load.seed; length = load.bytes } ∷ jobs)
     (jobs_more load (suc first) count
-    ∙ ap (λ (n : ℕ). jobs_from load (suc first) count ++ record { number = n; seed = load.seed; length = load.bytes } ∷ []) (let same : suc first + count ≡ first + suc count = omega arith in same))
+    ∙ ap (λ (n : ℕ). jobs_from load (suc first) count ++ record { number = n; seed = load.seed; length = load.bytes } ∷ [])
+    (let same : suc first + count ≡ first + suc count = omega arith in same))
 
 -- their numbers are greater ones
 above : (load : Load) (least first count : ℕ) → least < first → AllByRecursion (λ j. j.number ≢ least) (jobs_from load first count)

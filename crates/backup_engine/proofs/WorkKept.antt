@@ -211,7 +211,8 @@ module _ (D : Type 0) (view : D → DiskView) (C : Type 0) (state : C → CoreSt
   abbrev end : DiskView
   end = lent_end D view first n w
 
-  module _ (opens : CallsRunByFiles (MutBor D) given C state) (running : IsRunning (state old)) (last : Reads Done (state new).disk end) (clock : end.clock ≡ (state new).disk.clock)
+  module _ (opens : CallsRunByFiles (MutBor D) given C state) (running : IsRunning (state old)) (last : Reads Done (state new).disk end)
+      (clock : end.clock ≡ (state new).disk.clock)
       (plan : Plan) (came : Outcome) (some : 1 ≤ plan.workers) (numbers : HaveNumbers plan.jobs) (works : WorksThrough state plan came old new) where
     abbrev pub ran : Ran
     ran = record { came = came; steps = works.steps }

@@ -5,7 +5,6 @@ pub mod Checking
 pub mod Collected
 pub mod Collecting
 pub mod Frame
-pub mod Giving
 pub mod Line
 pub mod LineValue
 pub mod Lines

@@ -1,8 +1,6 @@
 -- The lines of a script that a runner runs, and what is so on the way (docs/MODEL.md, 'Commands').
 use Rattle.std.specs.Prelude.{◌≡◌, ◌⊎◌, ℕ, Bool, true, false, List, [], Some, Result, Ok, Err}
-use Rattle.std.specs.List.{AllByRecursion}
 use Rattle.base_model.specs.Fault.{Rose}
-use Rattle.base_model.specs.Known.{Appended}
 use Rattle.store_machine.specs.Commands.{Replied, ends}
 use Rattle.refusals.specs.declared.refusal.Refusal.{Refusal}
 use Rattle.reply_text.specs.declared.ending.Ending.{Ending}
@@ -10,7 +8,7 @@ use Rattle.reply_text.specs.declared.ending.Ending.TheVariants.{Source, Sink, Li
 use Rattle.script_lines.specs.declared.reader.NextLine.{NextLine}
 use Rattle.script_lines.specs.declared.reader.NextLine.TheVariants as next
 use Rattle.script_lines.specs.Grammar as lines
-use Rattle.script_lines.specs.Reader.{Given, HasRead, IsNext, IsPart, ReaderState, TakesOff}
+use Rattle.script_lines.specs.Reader.{Given, IsNext, IsPart, ReaderState, TakesOff}
 use Rattle.script_lines.specs.ReplyValue as replies
 use Rattle.script_lines.specs.Script.{Begins}
 use Rattle.script_runner.specs.Acts.{RunnerState}
@@ -19,7 +17,7 @@ use Rattle.script_runner.specs.Scripts.{AreOfActors, RunsLines}
 use Rattle.script_runner.specs.declared.runner.Halt.{Halt}
 use Rattle.script_runner.specs.declared.runner.Halt.TheVariants.{NoLine, Ended}
 use Rattle.store_core.specs.State.{CoreState}
-use Rattle.backup_engine.specs.Lines.{lines_of, printed}
+use Rattle.backup_engine.specs.Lines.{lines_of}
 use Rattle.backup_engine.specs.Script.{HasLast, IsScriptEnd, StopsAtReopen, WroteReplies}
 use Rattle.backup_engine.specs.Seen.{Streaming}
 use Rattle.backup_engine.specs.TopCall.{ending_in}
@@ -70,21 +68,6 @@ RunsNext C state number result reader reader_now old new =
     ReadsOn C state number result reader reader_now old new ⊎ ReadsNone C result reader reader_now old new
 
 -- ---- all lines
-
--- none of them ends a script
-abbrev pub NoneEnds : List Replied → Type 0
-NoneEnds rs = AllByRecursion (λ one. ends one.line one.reply ≡ false) rs
-
--- these were read, run and replied to, so far
-pub record ScriptSoFar (C : Type 0) (state : C → CoreState) (rs : List Replied) (reader : ReaderState)
-    (old new : Streaming (RunnerState C)) : Type 0 where
-  pub runs : RunsLines C state rs old.runner new.runner
-  pub actors : AreOfActors rs
-  pub none_ends : NoneEnds rs
-  pub read : HasRead old.source.left (lines_of rs) reader new.source.left
-  pub wrote : Appended old.sink.written new.sink.written (printed rs)
-  pub heard : new.source.faults ≡ old.source.faults
-  pub sent : new.sink.faults ≡ old.sink.faults
 
 -- the last line was a `reopen` that was refused so
 abbrev pub EndsReopening : List Replied → Refusal → Type 0

@@ -193,7 +193,8 @@ pub spelled_in : (h : HeaderValue) (bytes image : List ℕ) (at : ℕ) → Reach
     range at (header_size h) image ≡ header_spelling h → IsSpelled h bytes
 spelled_in h bytes image at reach stand allowed is =
     let begun : range 0 24 bytes ≡ range 0 24 (header_spelling h) =
-    ap (range 0 24) (sym stand) ∙ range-range 0 24 at (length bytes) image (omega (arith, reach.0)) ∙ sym (range-range 0 24 at (header_size h) image (omega arith)) ∙ ap (range 0 24) is
+    ap (range 0 24) (sym stand) ∙ range-range 0 24 at (length bytes) image (omega (arith, reach.0)) ∙ sym (range-range 0 24 at (header_size h) image (omega arith))
+    ∙ ap (range 0 24) is
     in
     let long : header_size h ≤ length bytes =
     subst (λ (r : Result ℕ MetaFault). IfOk r (λ n. entry_place n ≤ length bytes)) (counted h bytes allowed begun) reach.1 in (
@@ -229,7 +230,8 @@ header_again bytes h reach spelled =
     ap (λ (k : Kind). entries_at k data_length count [] bytes) kind
     ∙ ap (λ (d : ℕ). entries_at h.kind d count [] bytes) f.length_is
     ∙ ap (λ (n : ℕ). entries_at h.kind h.data_length n [] bytes) f.count_is
-    ∙ entries_again h.kind h.data_length [] h.entries bytes (omega (arith, long, f.count_is)) allowed.entries p.entries allowed.whole (small_length h.data_length allowed.data_length) in
+    ∙ entries_again h.kind h.data_length [] h.entries bytes (omega (arith, long, f.count_is)) allowed.entries p.entries allowed.whole
+    (small_length h.data_length allowed.data_length) in
     then_step (count_in bytes) _ count (Ok h) opened
     (then_step (passes (digest_checks bytes)) _ tt (Ok h) (checked_all (digest_checks bytes) tt digest)
     (then_step (checked (field_checks bytes) (kind_at bytes)) _ (kind_at bytes) (Ok h) (checked_all (field_checks bytes) (kind_at bytes) fields)

@@ -63,7 +63,8 @@ marked_or_not (true ∷ marks) (p ∷ ps) s = elim (marked_or_not marks ps (with
   })
 ]
   where
-    next : (ms : List Bool) → Contains (map (λ xs. true ∷ xs) (some_marks (length ps)) ++ map (λ xs. false ∷ xs) (some_marks (length ps))) ms → Contains (some_marks (suc (length ps))) ms
+    next : (ms : List Bool) → Contains (map (λ xs. true ∷ xs) (some_marks (length ps)) ++ map (λ xs. false ∷ xs) (some_marks (length ps))) ms
+        → Contains (some_marks (suc (length ps))) ms
     next ms there = (suc there.0, omega (arith, there.1), there.2)
 marked_or_not (false ∷ marks) (p ∷ ps) s = elim (marked_or_not marks ps s) [
   | inl none ↦ inl none
@@ -76,7 +77,8 @@ marked_or_not (false ∷ marks) (p ∷ ps) s = elim (marked_or_not marks ps s) [
   })
 ]
   where
-    next : (ms : List Bool) → Contains (map (λ xs. true ∷ xs) (some_marks (length ps)) ++ map (λ xs. false ∷ xs) (some_marks (length ps))) ms → Contains (some_marks (suc (length ps))) ms
+    next : (ms : List Bool) → Contains (map (λ xs. true ∷ xs) (some_marks (length ps)) ++ map (λ xs. false ∷ xs) (some_marks (length ps))) ms
+        → Contains (some_marks (suc (length ps))) ms
     next ms there = (suc there.0, omega (arith, there.1), there.2)
 
 -- so a store with some is the store, or one of those that the machine has

@@ -1,9 +1,19 @@
 -- What a call of a disk makes of it, put together.
-use Rattle.std.proofs.Common.{◌≡◌, inl, inr, ℕ, ◌≤◌, List, ◌∙◌, arith}
+use Rattle.std.proofs.Common.{◌≡◌, ◌⊎◌, inl, inr, ℕ, ◌≤◌, List, ◌∙◌, arith}
 use Rattle.base_model.specs.Known.{Known, KnownWith}
 use Rattle.dd_disk.specs.View.{DiskView, IsLater, OnlyReads, CrashLeaves, SteppedFrom}
-use Rattle.dd_disk.specs.Calls.{CrashSteps, TimeAdvances}
 
+-- each image that a crash may leave now is one from before, but for a step
+abbrev pub CrashSteps : (List ℕ → List ℕ → Type 0) → (List ℕ → Type 0) → (List ℕ → Type 0) → Type 0
+CrashSteps step old new = (c : List ℕ) → new c → (d : List ℕ) × old d × step d c
+
+-- what happens inside a call has the time of its start
+pub record TimeAdvances (before now : ℕ) (past since : ℕ → List ℕ → Type 0) (images : List ℕ → Type 0) : Type 0 where
+  pub later : before ≤ now
+  pub nothing_else : (t : ℕ) (c : List ℕ) → t ≤ before → since t c → past t c ⊎ images c
+  pub keeps : (t : ℕ) (c : List ℕ) → t ≤ before → past t c → since t c
+
+-- so it is of a disk
 abbrev pub Goes : DiskView → DiskView → Type 0
 Goes old new = TimeAdvances old.clock new.clock old.images_since new.images_since new.images
 

@@ -1,7 +1,8 @@
 -- One more call of a disk in memory.
 use Rattle.std.proofs.Common.{◌≡◌, ◌⊎◌, inl, inr, ⊎_elim, ℕ, ◌+◌, ◌<◌, ◌≤◌, Bool, true, false, List, [], ◌∷◌, ◌++◌, length, take, drop, refl, sym, ◌∙◌, ap, subst, arith, take-append-drop}
 use Rattle.dd_disk.specs.Writes.{Torn}
-use Rattle.dd_disk.specs.Calls.{CrashSteps, TimeAdvances, shown_length, lengths, first_of, end_of, shown_by, images_by, shown_after, images_after, images_before, images_of, images_past, IsPast, Made, Skipped, Notes}
+use Rattle.dd_disk.specs.Calls.{shown_length, lengths, first_of, end_of, shown_by, images_by, shown_after, images_after, images_before, images_of, images_past, IsPast, Made, Skipped, Notes}
+use Rattle.dd_disk.proofs.Memories.{CrashSteps, TimeAdvances}
 use Rattle.dd_disk.specs.declared.mem.MemDisk.{MemDisk}
 use Rattle.dd_disk.specs.declared.call.Call.{Call}
 use Rattle.dd_disk.specs.declared.call.Asked.{Asked}

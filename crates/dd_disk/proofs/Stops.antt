@@ -5,7 +5,7 @@ use Rattle.std.proofs.lemmas.Bool.{leb-true, ltb-true}
 use Rattle.base_model.specs.Bytes.{range, written}
 use Rattle.base_model.proofs.Ranges.{length-range}
 use Rattle.dd_disk.specs.Writes.{Torn}
-use Rattle.dd_disk.specs.Calls.{shown_length, end_of, shown_by, image_by, images_by, shown_after, images_after, images_before, images_of, images_past, IsPast, left_out, is_left_out, filled, filled_by, filled_after, reached, stop_image}
+use Rattle.dd_disk.specs.Calls.{shown_length, end_of, shown_by, images_by, shown_after, images_after, images_before, images_of, images_past, IsPast, left_out, is_left_out, filled, filled_by, filled_after, reached, stop_image}
 use Rattle.dd_disk.specs.Stops.{filled_write, EndsSynced}
 use Rattle.dd_disk.specs.declared.call.Call.{Call}
 use Rattle.dd_disk.specs.declared.call.Fill.{Fill}
@@ -71,6 +71,13 @@ length_filled : (fill : Fill) (old new : List ℕ) → length old ≡ length new
 length_filled Old old new same = same
 length_filled New old new same = refl
 length_filled (Byte byte) old new same = length-replicate (length new) byte
+
+-- of one image before it, an image after it
+abbrev image_by : Asked → Bool → List ℕ → List ℕ → List ℕ → Type 0
+image_by (Read at count) done shown d c = c ≡ d
+image_by (Write at bytes) done shown d c = Torn at (length bytes.items) d c
+image_by Sync true shown d c = c ≡ shown
+image_by Sync false shown d c = c ≡ d
 
 filled_torn : (fill : Fill) (at : ℕ) (bytes image : List ℕ) → at + length bytes ≤ length image → Torn at (length bytes) image (filled_write fill at bytes image)
 filled_torn fill at bytes image fits = record {

@@ -16,16 +16,6 @@ use Rattle.dd_disk.specs.declared.call.Fill.TheVariants.{Old, New, Byte}
 use Rattle.dd_disk.specs.declared.call.Noted.{Noted}
 use Rattle.dd_disk.specs.declared.call.Noted.TheVariants.{Done, Failed, Missed}
 
--- each image that a crash may leave now is one from before, but for a step
-abbrev pub CrashSteps : (List ℕ → List ℕ → Type 0) → (List ℕ → Type 0) → (List ℕ → Type 0) → Type 0
-CrashSteps step old new = (c : List ℕ) → new c → (d : List ℕ) × old d × step d c
-
--- what happens inside a call has the time of its start
-pub record TimeAdvances (before now : ℕ) (past since : ℕ → List ℕ → Type 0) (images : List ℕ → Type 0) : Type 0 where
-  pub later : before ≤ now
-  pub nothing_else : (t : ℕ) (c : List ℕ) → t ≤ before → since t c → past t c ⊎ images c
-  pub keeps : (t : ℕ) (c : List ℕ) → t ≤ before → past t c → since t c
-
 -- What the disk held at first. It is kept from the first write on; until then it is what reads give.
 abbrev pub first_of : Option (Vec ℕ Global) → List ℕ → List ℕ
 first_of None bytes = bytes
@@ -49,13 +39,6 @@ images_by (Read at count) done shown images c = images c
 images_by (Write at bytes) done shown images c = (d : List ℕ) × images d × Torn at (length bytes.items) d c
 images_by Sync true shown images c = c ≡ shown
 images_by Sync false shown images c = images c
-
--- of one image before it, an image after it
-abbrev pub image_by : Asked → Bool → List ℕ → List ℕ → List ℕ → Type 0
-image_by (Read at count) done shown d c = c ≡ d
-image_by (Write at bytes) done shown d c = Torn at (length bytes.items) d c
-image_by Sync true shown d c = c ≡ shown
-image_by Sync false shown d c = c ≡ d
 
 -- What reads give after these calls, the first of them first.
 abbrev pub shown_after : List ℕ → List Call → List ℕ

@@ -22,7 +22,7 @@ pub struct MemDisk {
     bytes: Vec<u8>,
     log: Log,
     ghost replayed: { shown_after (first_of first bytes.items) log.calls.items ≡ bytes.items },
-    ghost past: { IsPast (length (first_of first bytes.items)) log.count log.calls.items } by { IsPast-prop (length (first_of first bytes.items)) log.count log.calls.items },
+    ghost past: { IsPast (length (first_of first bytes.items)) log.count log.calls.items } by { IsPast-prop _ _ _ },
 }
 
 impl MemDisk {

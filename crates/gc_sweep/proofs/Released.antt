@@ -245,8 +245,10 @@ module _ (S : List ℕ → Type 0) (index : PlaceMap) (files : Files) (needed : 
         let c = written.0 given known in
         let whole = subst (AreFreed slots given) (same_content c.0 held (sym c.1 ∙ is)) c.2 in
         all_keep slots store given held partial can stands (each_in_turn given held (old.sized given known ∙ size_is) whole)
-    holds_written Refused old new given held size_is known is stands written = same_keeps (HasKey index) store given held (same_content held given (sym is ∙ written.content_is ∙ known))
-    holds_written Unread old new given held size_is known is stands written = same_keeps (HasKey index) store given held (same_content held given (sym is ∙ written.content_is ∙ known))
+    holds_written Refused old new given held size_is known is stands written = same_keeps (HasKey index) store given held
+        (same_content held given (sym is ∙ written.content_is ∙ known))
+    holds_written Unread old new given held size_is known is stands written = same_keeps (HasKey index) store given held
+        (same_content held given (sym is ∙ written.content_is ∙ known))
     holds_written Broken old new given held size_is known is stands written = tt
 
 -- the containers in slots of a store that the tables represent
@@ -268,7 +270,8 @@ module _ (t : Tables) (slots : List ℕ) (there : AllByRecursion (λ slot. get_o
   pub gives_back : GivesBack t slots e old new
   gives_back = record {
     moves = λ among store index files rep needed none.
-        moves_freed (IsIn among) index files needed size slots store (rep.index_is_newest index refl) (can store index rep none) apart in_turn each_in_turn e old new size_is writes;
+        moves_freed (IsIn among) index files needed size slots store (rep.index_is_newest index refl)
+        (can store index rep none) apart in_turn each_in_turn e old new size_is writes;
     holds = λ among store index files given held rep needed none known is stands.
         holds_written (IsIn among) index files needed size slots store (rep.index_is_newest index refl) (can store index rep none) apart in_turn each_in_turn e old new given held
         size_is known is stands writes.written;

@@ -1,6 +1,6 @@
 -- Segments that wait, in buffers.
 use Rattle.ingest_session.proofs.Prelude.{◌≡◌, ◌≤◌, ◌<◌, ◌+◌, ◌-◌, ◌*◌, ◌++◌, List, [], ◌∷◌, ℕ, zero, suc, arith, drop, length, length-append, refl, sym, ◌∙◌, ap, subst, sum_by, append_assoc, append-nil}
-use Rattle.std.proofs.Common.{get_or, vec_capacity, ◌/◌, ◌%◌}
+use Rattle.std.proofs.Common.{deque_capacity, get_or, vec_capacity, ◌/◌, ◌%◌}
 use Rattle.std.specs.Global.{Vec}
 use Rattle.std.proofs.Math.Nat.{div-add-mod}
 use Rattle.std.proofs.lemmas.List.{get_or_append_left}
@@ -13,7 +13,16 @@ use Rattle.disk_format.specs.declared.numbers.TheConstants.{MOST_SEGMENT}
 use Rattle.digests.specs.Texts.{Texts}
 use Rattle.merkle_file.proofs.Placing.{all_push}
 use Rattle.ingest_session.specs.declared.chunks.TheConstants.{CHUNK}
-use Rattle.ingest_session.specs.Buffers.{AreChunks, IsFull, IsSpare, all_in}
+use Rattle.ingest_session.specs.declared.chunks.Chunks.TheInside.{Inside}
+use Rattle.ingest_session.specs.Buffers.{AreChunks, IsFull, IsSpare, Waiting, all_in}
+use Rattle.ingest_session.proofs.Members.{all_after, all_before}
+
+-- what is seen of the parts of one, and what is so of them
+abbrev pub waiting : Inside → Waiting
+waiting i = record { most = i.most; segments = drop i.gone (all_in i.full.items i.last) }
+
+abbrev pub Stand : Inside → Type 0
+Stand i = AreChunks i.most i.count i.gone i.full.items (deque_capacity i.full) i.last i.spare
 
 abbrev in_all : List Texts → List (List ℕ)
 in_all full = flat_map (λ (t : Texts). t.all) full
@@ -85,18 +94,15 @@ then_spare full last spare none =
     ∙ flat_map-append (λ (t : Texts). t.all) full (last ∷ [])
     ∙ ap (λ xs. in_all full ++ xs) (append-nil last.all)
 
-but_last : {X : Type 0} (P : X → Type 0) (xs : List X) (x : X) → AllByRecursion P (xs ++ x ∷ []) → AllByRecursion P xs × P x
-but_last P [] x all = (tt, all.0)
-but_last P (y ∷ xs) x all = let rest = but_last P xs x all.1 in ((all.0, rest.0), rest.1)
-
 -- a spare buffer is the last then
 pub with_spare : (most count gone : ℕ) (full : List Texts) (capacity capacity_now : ℕ) (last next : Texts) (spare rest : Vec Texts)
     → AreChunks most count gone full capacity last spare → length last.all ≡ CHUNK → spare.items ≡ rest.items ++ next ∷ []
     → capacity_now ≡ capacity → vec_capacity rest ≡ vec_capacity spare
     → AreChunks most count gone (full ++ last ∷ []) capacity_now next rest × (next.all ≡ [])
 with_spare most count gone full capacity capacity_now last next spare rest are whole popped same same_spare =
-    let split = but_last IsSpare rest.items next (subst (AllByRecursion IsSpare) popped are.empty) in
-    let there = then_spare full last next split.1.1 in
+    let all = subst (AllByRecursion IsSpare) popped are.empty in
+    let one = (all_after IsSpare rest.items (next ∷ []) all).0 in
+    let there = then_spare full last next one.1 in
     let long = ap length popped ∙ length-append rest.items (next ∷ []) in (
       record {
         limit = are.limit;
@@ -107,10 +113,10 @@ with_spare most count gone full capacity capacity_now last next spare rest are w
         room_full = omega (arith, are.room_full, same);
         room_spare = omega (arith, are.room_spare, same_spare);
         each = all_push IsFull full last are.each (are.filled, whole);
-        filled = split.1.0;
-        empty = split.0;
+        filled = one.0;
+        empty = all_before IsSpare rest.items (next ∷ []) all;
       },
-      split.1.1,
+      one.1,
     )
 
 -- there is one, where a segment has room

@@ -1,7 +1,11 @@
 -- Few segments end in a short piece.
-use Rattle.ingest_session.proofs.Prelude.{◌≡◌, ◌≤◌, ◌<◌, ◌+◌, ◌*◌, ◌⊎◌, inl, inr, ℕ, List, length, ap, arith, length-append, LEAST_SEGMENT, IsTaking, CutsFew, SessionState}
+use Rattle.ingest_session.proofs.Prelude.{◌≡◌, ◌≤◌, ◌<◌, ◌+◌, ◌*◌, ◌⊎◌, inl, inr, ℕ, List, length, ap, arith, length-append, LEAST_SEGMENT, IsTaking, SessionState}
 use Rattle.std.proofs.Math.Nat.{eq-or-lt_of_le}
-use Rattle.ingest_session.specs.Cuts.{CutsOne}
+use Rattle.ingest_session.specs.Cuts.{CutsOne, least_waiting}
+
+-- The first segment that ends in so many bytes has one of them at least, and each later one the least length.
+abbrev pub CutsFew : ℕ → SessionState → SessionState → Type 0
+CutsFew taken old new = length old.queue < length new.queue → least_waiting new < LEAST_SEGMENT * (length old.queue + 1) + taken
 
 few_by : (waited waits more hand later taken piece : ℕ) → waited ≤ waits
     → (waited < waits → LEAST_SEGMENT * waits + hand < LEAST_SEGMENT * (waited + 1) + taken)

@@ -1,5 +1,5 @@
 -- The digests that a queue keeps of its first segments.
-use Rattle.ingest_session.proofs.Prelude.{◌≡◌, ◌≤◌, ◌∙◌, ◌++◌, List, [], ◌∷◌, ℕ, ap, arith, drop, length, map, refl}
+use Rattle.ingest_session.proofs.Prelude.{◌≤◌, ◌++◌, List, [], ◌∷◌, ℕ, arith, drop, length, map, refl}
 use Rattle.sha2.specs.Sha256.{sha256}
 use Rattle.ingest_session.specs.Buffers.{AreDigests}
 
@@ -19,12 +19,3 @@ kept_of_all [] [] h = tt
 kept_of_all [] (s ∷ ss) h = (refl, kept_of_all [] ss tt)
 kept_of_all (d ∷ ds) [] h = absurd h
 kept_of_all (d ∷ ds) (s ∷ ss) h = (h.0, kept_of_all ds ss h.1)
-
--- the digests of what shows byte strings are those of the byte strings
-pub of_shown : {A : Type 0} (shown : A → List ℕ) (all : List A) (ss : List (List ℕ)) → map shown all ≡ ss
-    → map (λ t. sha256 (shown t)) all ≡ map sha256 ss
-of_shown shown all ss same = each all ∙ ap (map sha256) same
-  where
-    each : (all : List _) → map (λ t. sha256 (shown t)) all ≡ map sha256 (map shown all)
-    each [] = refl
-    each (t ∷ all) = ap (λ ds. sha256 (shown t) ∷ ds) (each all)

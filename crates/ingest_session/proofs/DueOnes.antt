@@ -67,7 +67,7 @@ module _ (s t : SessionState) (h g : History) (has : HasHistory s h) (gas : HasH
       ∙ like_its.due
 
 pub due_is_one : DueIsOne
-due_is_one given ended answers mine its first second =
+due_is_one given ended answers _ _ first second =
     sym first.due_is
     ∙ due_same first.session second.session first.history second.history first.has second.has (first.given_is ∙ sym second.given_is)
     (first.ended_is ∙ sym second.ended_is) (first.answers_are ∙ sym second.answers_are) first.settled second.settled

@@ -18,7 +18,6 @@ pub use Rattle.container_meta.specs.declared.kind.Kind.TheVariants.{Leaf, Tree}
 pub use Rattle.disk_format.specs.declared.numbers.TheConstants.{LEAST_SEGMENT, MOST_FILE, MOST_LEVEL}
 pub use Rattle.ingest_session.specs.Calls.{IsEnding, IsTaking, KeepsItem}
 pub use Rattle.ingest_session.specs.Child.{has_child_of}
-pub use Rattle.ingest_session.specs.Cuts.{CutsFew}
 pub use Rattle.ingest_session.specs.Due.{HasTurn, due_in, due_node, end_due, gathered, is_node_due, item_due, item_is_there, item_kind, needs_no_step, node_due, offered_in, open_of, puts_aside, queue_due, queue_is_there, seals_data, segments_of_all, turn_for, turn_in}
 pub use Rattle.ingest_session.specs.Facts.{IsKept, IsKeptChild, MayFollow, data_in, nodes_in}
 pub use Rattle.ingest_session.specs.Filling.{with_segment}

@@ -1,5 +1,5 @@
 -- How many segments end in bytes that are taken.
-use Rattle.std.specs.Prelude.{◌≡◌, ◌≤◌, ◌<◌, ℕ, ◌+◌, ◌*◌, length, ◌⊎◌}
+use Rattle.std.specs.Prelude.{◌≡◌, ◌≤◌, ℕ, ◌+◌, ◌*◌, length, ◌⊎◌}
 use Rattle.disk_format.specs.declared.numbers.TheConstants.{LEAST_SEGMENT}
 use Rattle.ingest_session.specs.State.{SessionState}
 
@@ -11,7 +11,3 @@ least_waiting s = LEAST_SEGMENT * length s.queue + length s.hand.bytes
 pub record CutsOne (taken : ℕ) (old new : SessionState) : Type 0 where
   pub one : (length new.queue ≡ length old.queue) ⊎ ((length new.queue ≡ length old.queue + 1) × (length new.hand.bytes ≡ 0))
   pub least : least_waiting new ≤ least_waiting old + taken
-
--- The first segment that ends in so many bytes has one of them at least, and each later one the least length.
-abbrev pub CutsFew : ℕ → SessionState → SessionState → Type 0
-CutsFew taken old new = length old.queue < length new.queue → least_waiting new < LEAST_SEGMENT * (length old.queue + 1) + taken

@@ -14,8 +14,9 @@ use std::mem::replace;
 /// How many segments a buffer has room for.
 pub(crate) const CHUNK: usize = 16;
 
-/// Segments in the order in which they came, up to `CHUNK` in one buffer. It takes the memory for all that may wait when it is made, of
-/// which the system gives what is written: of a buffer only as much as its segments take, and a buffer that was left last is the next one.
+/// Segments in the order in which they came, up to `CHUNK` in one buffer. It takes the memory of all buffers when it is made, for segments
+/// of the greatest length; the system gives the pages of one as they are first written, and they stay. A buffer that was left last is the
+/// next one.
 #[derive(Drop)]
 pub(crate) struct Chunks {
     /// How many wait at most while the file goes on; its end adds one more.

@@ -15,9 +15,9 @@ use std::thread::Threads;
 
 /// The bytes of a file as they come, and what of them the store is still to hold.
 ///
-/// It takes the memory of its queue, 16,384 bytes for each segment that may wait, of which it writes as much as the segments have, and of
-/// two open containers when it is made; that of the nodes that wait comes with them, and so does that of containers that are set aside, at
-/// most 16: 4.2 MB in all, beside the map of their keys.
+/// When it is made it takes the memory of two open containers and of its queue: buffers of 262,144 bytes for 16 segments each, 5 for a
+/// queue of 64 and 65 for one of 1,024, of which it writes as much as the segments have. That of the nodes that wait comes with them, and
+/// so does that of containers that are set aside, at most 16: 4.2 MB in all, beside the map of their keys.
 #[derive(Drop)]
 pub struct Session {
     pub(crate) alloc: Global,

@@ -7,5 +7,6 @@ pub mod SizedKeys
 pub mod TreeWalks
 pub mod Visited
 pub mod Visits
+pub mod Walked
 pub mod Walks
 pub mod Whole

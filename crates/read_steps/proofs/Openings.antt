@@ -13,7 +13,6 @@ use Rattle.merkle_file.specs.Walk.{Ahead, IsTree, segments_in, trees_in}
 use Rattle.namespace.specs.Names.{NameMap}
 use Rattle.store_model.specs.Files.{Files}
 use Rattle.store_model.specs.Image.{Store, names_of}
-use Rattle.store_model.specs.Refusals as lookup
 use Rattle.store_model.specs.Standing.{IsStoreOf}
 use Rattle.store_model.specs.Steps.{KeepsCopies}
 use Rattle.store_model.specs.Collisions.{ByteSet, IsIn}
@@ -49,8 +48,7 @@ pub file_ahead : (store : Store) (files : Files) (image name : List ℕ) (names 
     → ((t : Tree (List ℕ)) → AllByRecursion IsTree (trees_in t) → top_of root ≡ tree.root_of of_segment t → Ahead ahead (trees_in t))
     → IsFileAhead store files image name root ahead
 file_ahead store files image name names root ahead has same holds begins =
-    let found : lookup.HasRoot name root store = (has.sequence, ap (λ (m : NameMap). finite.get m name) (sym same) ∙ has.found) in
-    let file = file_of_root name root store files image holds found in
+    let file = file_of_root name root store files image holds (has.sequence, ap (λ (m : NameMap). finite.get m name) (sym same) ∙ has.found) in
     let few : length file.bytes ≤ MOST_FILE = subst FitsFile file.filed (files_fit store files image holds name) in
     let top : top_of root ≡ tree.root_of of_segment (file_tree file.bytes) = ap top_of (file.root_is ∙ root_of_tree file.bytes few) in
     let keys : List (List ℕ) = tree_keys (file_tree file.bytes) in

@@ -85,8 +85,11 @@ module _ (index : PlaceMap) where
     right = came.right;
     noted_have = λ key visited. elim (visited_first t ts key visited) [
       | inl here ↦
-          came.had_have key
-          (place.length, ap (λ (m : KeySizes). finite.get m key) is ∙ ap (finite.get (finite.insert from (top_key t) place.length)) (sym here) ∙ inserted_there from (top_key t) place.length)
+          came.had_have key (
+            place.length,
+            ap (λ (m : KeySizes). finite.get m key) is ∙ ap (finite.get (finite.insert from (top_key t) place.length)) (sym here)
+                ∙ inserted_there from (top_key t) place.length,
+          )
       | inr later ↦ came.noted_have key later
     ];
     had_have = λ key has. came.had_have key (subst (λ (m : KeySizes). HasSize m key) (sym is) (has_more from (top_key t) key place.length has));

@@ -24,7 +24,8 @@ use Rattle.store_model.specs.Collisions.{ByteSet}
 use Rattle.store_state.specs.Refused.{fails}
 use Rattle.read_steps.specs.Opening.{top_of}
 use Rattle.read_steps.specs.Passed.{HasNode, IsSized, NodeSet, NotesNext, WasNoted, node_key}
-use Rattle.read_steps.specs.Trees.{AllHeld, AreAmong, AreWalked, IsHeld, IsStepsRefusal, IsStuckAmong, IsStuckOn, IsTreeRefusal, IsTreesRefusal, IsWalked, IsWalking, IsWalkingAll, NotesKeys, NotesTrees, TakesStep, TakesSteps, WalkState, Walks, WalksRoots, WhereHeld, ahead_of, key_ahead, walk_state}
+use Rattle.read_steps.specs.Trees.{AllHeld, AreAmong, IsHeld, IsStepsRefusal, IsStuckAmong, IsStuckOn, IsTreesRefusal, NotesKeys, NotesTrees, TakesStep, TakesSteps, WalkState, Walks, WalksRoots, WhereHeld, key_ahead, walk_state}
+use Rattle.read_steps.proofs.Walked.{AreWalked, IsTreeRefusal, IsWalked, IsWalking, IsWalkingAll, ahead_of}
 use Rattle.read_steps.specs.Visiting.{HasPlace, IsVisited, IsVisitRefusal, Visits, VisitsPlaced, VisitsRoots, VisitsTo}
 use Rattle.read_steps.specs.Walking.{IsIndexed, WasRead, top_key}
 use Rattle.read_steps.proofs.Named.{among_more}
@@ -409,9 +410,11 @@ module _ (M : Type 0) (R : M → List ℕ → Place → M → Type 0) where
         → Walks M R i mid new (walk_state M (start_of (top_of n.root)) nodes notes) (walk_state M [] then_nodes then_notes) →
         WalksRoots M R first old new (roots ++ n ∷ []) a (walk_state M [] then_nodes then_notes)
     walks_roots_more roots n a nodes then_nodes notes then_notes walks tree =
-        roots_push first old new roots n a (walk_state M [] nodes notes) (walk_state M [] then_nodes then_notes) (walks_roots_until roots a (walk_state M [] nodes notes) walks) (record {
+        roots_push first old new roots n a (walk_state M [] nodes notes) (walk_state M [] then_nodes then_notes)
+        (walks_roots_until roots a (walk_state M [] nodes notes) walks) (record {
           count = tree.count;
-          steps = steps_since first i old mid new is before after tree.count (walk_state M (start_of (top_of n.root)) nodes notes) (walk_state M [] then_nodes then_notes) tree.steps;
+          steps = steps_since first i old mid new is before after tree.count (walk_state M (start_of (top_of n.root)) nodes notes)
+              (walk_state M [] then_nodes then_notes) tree.steps;
         }) refl
 
     pub tree_stuck : (start earlier : List Top) (nodes : NodeSet) (notes : M) (refusal : Refusal) → AreWalked first old mid earlier nodes

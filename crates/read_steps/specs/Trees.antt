@@ -1,11 +1,10 @@
 -- A walk over the trees of all names that notes the key of each node and each segment that it comes to (docs/MODEL.md, 'Opening').
-use Rattle.std.specs.Prelude.{◌≡◌, ◌⊎◌, ◌≤◌, ℕ, zero, suc, List, [], ◌∷◌, ◌++◌, drop, Bool, true, false, Option, Some, None}
+use Rattle.std.specs.Prelude.{◌≡◌, ◌⊎◌, ℕ, zero, suc, List, [], ◌∷◌, ◌++◌, drop, Option, Some, None}
 use Rattle.std.specs.FinMap as finite
-use Rattle.std.specs.List.{AllByRecursion, Contains}
+use Rattle.std.specs.List.{AllByRecursion}
 use Rattle.container_meta.specs.declared.place.Place.{Place}
 use Rattle.container_meta.specs.Places.{PlaceMap}
 use Rattle.container_meta.specs.Spelling.{HeaderValue}
-use Rattle.dd_disk.specs.Ending.{Done, Reads}
 use Rattle.dd_disk.specs.View.{DiskView}
 use Rattle.merkle_file.specs.declared.top.Top.{Top}
 use Rattle.merkle_file.specs.Tree.{Tree}
@@ -13,7 +12,7 @@ use Rattle.merkle_file.specs.Walk.{start_of}
 use Rattle.namespace.specs.Listing.{NamedRoot}
 use Rattle.store_model.specs.Collisions.{ByteSet}
 use Rattle.read_steps.specs.Opening.{top_of}
-use Rattle.read_steps.specs.Passed.{HasNode, IsSized, NodeSet, NotesNext, WasNoted}
+use Rattle.read_steps.specs.Passed.{NodeSet, NotesNext, WasNoted}
 use Rattle.read_steps.specs.Visiting.{HasPlace, IsVisitRefusal, IsVisited, VisitsPlaced, VisitsRoots, VisitsTo}
 use Rattle.read_steps.specs.Walking.{HeldAhead, IsIndexed, WasRead, top_key}
 use Rattle.refusals.specs.declared.refusal.Refusal.{Refusal}
@@ -125,9 +124,6 @@ abbrev pub IsStepsRefusal : (M : Type 0) → (M → List ℕ → Place → M →
     → Type 0
 IsStepsRefusal M R index old new before refusal = (refusal ≡ Memory) ⊎ StopsWalk M R index old new before refusal
 
-abbrev pub IsTreeRefusal : PlaceMap → DiskView → DiskView → List Top → Refusal → Type 0
-IsTreeRefusal index old new start refusal = (refusal ≡ Memory) ⊎ IsStuckOn index old new start refusal
-
 -- why the trees of these roots are not walked
 abbrev pub IsTreesRefusal : PlaceMap → DiskView → DiskView → List NamedRoot → Refusal → Type 0
 IsTreesRefusal index old new roots refusal = (refusal ≡ Memory) ⊎ IsStuckAmong index old new roots refusal
@@ -147,42 +143,3 @@ abbrev pub WhereHeld : PlaceMap → Option (List ℕ) → (ByteSet → List (Opt
 WhereHeld index content Held P =
     (counts : ByteSet) (held : List (Option HeaderValue)) (image : List ℕ) → IsIndexed counts held (Some index) content image
     → Held counts held image → P counts held image
-
--- what is to come, after a step; nothing, where there was none to take
-abbrev pub ahead_of : Bool → List Top → List Top
-ahead_of true ahead = ahead
-ahead_of false ahead = []
-
--- ---- what was walked whole
-
--- A tree was walked to its end, and its keys are among those that were noted.
-pub record IsWalked (index : PlaceMap) (old new : DiskView) (noted : List Top) (t : Top) : Type 0 where
-  pub visited : List Top
-  pub way : VisitsTo (WasRead (Some index) old new) (HasPlace (Some index)) (t ∷ []) visited []
-  pub among : AreAmong visited noted
-
--- each of these nodes was
-abbrev pub AreWalked : PlaceMap → DiskView → DiskView → List Top → NodeSet → Type 0
-AreWalked index old new noted nodes = (t : Top) → IsSized t → HasNode nodes t → IsWalked index old new noted t
-
--- A part of a tree was walked, and its keys noted, but for those that were noted earlier. Each of these nodes was walked whole, or was come
--- to on the way.
-pub record IsWalking (M : Type 0) (R : M → List ℕ → Place → M → Type 0) (index : PlaceMap) (old new : DiskView) (start earlier : List Top)
-    (initial : M) (now : WalkState M) : Type 0 where
-  pub visited : List Top
-  pub noted : List Top
-  pub way : VisitsTo (WasRead (Some index) old new) (HasPlace (Some index)) start visited now.ahead
-  pub notes : NotesKeys M R index noted initial now.notes
-  pub all : AreAmong visited (earlier ++ noted)
-  pub only : AreAmong noted visited
-  pub came : (t : Top) → IsSized t → HasNode now.nodes t
-      → IsWalked index old new (earlier ++ noted) t ⊎ ((1 ≤ t.level) × Contains visited t)
-
--- some of the trees were walked
-pub record IsWalkingAll (M : Type 0) (R : M → List ℕ → Place → M → Type 0) (first index : PlaceMap) (old new : DiskView)
-    (roots : List NamedRoot) (nodes : NodeSet) (before after : M) : Type 0 where
-  pub notes : NotesTrees M R first old new roots before after
-  pub walked : AreWalked first old new notes.noted nodes
-  pub walks : WalksRoots M R first old new roots (walk_state M [] finite.empty before) (walk_state M [] nodes after)
-  pub index_is : index ≡ first
-  pub reads : Reads Done old new

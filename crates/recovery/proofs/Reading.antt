@@ -93,7 +93,8 @@ differ_push held (Some h) differ may = different-push held h differ may.1
 
 -- a used id is damage
 pub used_id : (shown : (List ℕ → Type 0) → Type 0) (before : List (Option HeaderValue)) (slot : ℕ) (h : HeaderValue) → IsHeader h → (IsUnusedId h.id before → ⊥)
-    → shown (λ image. range (slot_at slot) (length (header_spelling h)) image ≡ header_spelling h) → HoldsDamage shown (λ bytes. IsSlotDamage before bytes (Field 8 h.id)) (slot_at slot)
+    → shown (λ image. range (slot_at slot) (length (header_spelling h)) image ≡ header_spelling h)
+    → HoldsDamage shown (λ bytes. IsSlotDamage before bytes (Field 8 h.id)) (slot_at slot)
 used_id shown before slot h right used read =
     record {
       bytes = header_spelling h;

@@ -37,7 +37,6 @@ pub use Rattle.store_model.specs.Freeing.{HasNoGate, IsPartlyFreed, SameButGates
 pub use Rattle.store_model.specs.Image.{AreCopies, Encodes, HasFormat, IsValidFor, Store, last_sequence, names_of}
 pub use Rattle.store_model.specs.Indexing.{entry_key, with_entries}
 pub use Rattle.store_model.specs.Journal.{HoldsSelector, IsOlder, KnowsOther, StandFrom, last_of}
-pub use Rattle.store_model.specs.Refusals.{HasRoot}
 pub use Rattle.store_model.specs.Reserve.{AllKeys, HoldsNone, IsReachable, keys_below, tree_keys}
 pub use Rattle.store_model.specs.Slots.{AreHeaders, Copy, DifferentIds, HasKey, HoldSlots, HoldsSlot, IsIndexOf, IsPartialIndexOf, IsUnusedId, copy_in, first_free, free_slots, ids_of, last_id, newer, newest, place_of, with_slot, without_slot}
 pub use Rattle.store_model.specs.Standing.{AreFilesOf, AreNodes, HasJournal, IsFileOf, IsOfKind, IsStoreOf, StandsFor, entry_bytes}

@@ -1,5 +1,5 @@
 -- The roots that the names of a store have, and how long its copies are.
-use Rattle.store_model.proofs.Prelude.{◌≡◌, ℕ, ◌+◌, Bool, true, false, cond, List, [], ◌∷◌, length, Option, Some, None, sym, ◌∙◌, subst, arith, nat_cmp, eq_by_cmp, slice_cmp, nat_list_cmp_total, data_at, Root, Change, RecordValue, IsRoot, IsChange, Named, NameMap, names_with, names_changed, names_after, Copy, newest, Store, Encodes, IsValidFor, bytes_at, HasRoot}
+use Rattle.store_model.proofs.Prelude.{names_of, ◌≡◌, ℕ, ◌+◌, Bool, true, false, cond, List, [], ◌∷◌, length, Option, Some, None, sym, ◌∙◌, subst, arith, nat_cmp, eq_by_cmp, slice_cmp, nat_list_cmp_total, data_at, Root, Change, RecordValue, IsRoot, IsChange, Named, NameMap, names_with, names_changed, names_after, Copy, newest, Store, Encodes, IsValidFor, bytes_at}
 use Rattle.std.specs.FinMap as finite
 use Rattle.base_model.proofs.Ranges.{length-range}
 use Rattle.disk_format.specs.Cells.Change.{Put, Delete}
@@ -38,6 +38,10 @@ pub no_roots : HaveRoots finite.empty
 no_roots q named found =
     let none = sym (finite.get-empty {X = Named} (slice_cmp nat_cmp) q) ∙ found in
     absurd cc
+
+-- the name has this root
+abbrev pub HasRoot : List ℕ → Root → Store → Type 0
+HasRoot name root store = (sequence : ℕ) × (finite.get (names_of store) name ≡ Some (record { sequence = sequence; root = root }))
 
 -- the root that a name of a store has
 pub root_of_name : (size : ℕ) (store : Store) (name : List ℕ) (root : Root) → IsValidFor size store → HasRoot name root store → IsRoot root

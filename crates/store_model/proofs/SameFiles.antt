@@ -1,5 +1,5 @@
 -- An image is a store of one map of files at most, and the file of a name is that of its root.
-use Rattle.store_model.proofs.Prelude.{◌≡◌, ℕ, ◌≤◌, List, length, Option, Some, None, refl, sym, ◌∙◌, ap, subst, nat_le, nat_list_cmp_total, leb-true, MOST_FILE, Root, IsRoot, HeaderValue, Named, Files, Store, Encodes, names_of, last_sequence, HasRoot, IsFileOf, IsStoreOf, StandsFor, root_of, HoldsTree}
+use Rattle.store_model.proofs.Prelude.{◌≡◌, ℕ, ◌≤◌, List, length, Option, Some, None, refl, sym, ◌∙◌, ap, subst, nat_le, nat_list_cmp_total, leb-true, MOST_FILE, Root, IsRoot, HeaderValue, Named, Files, Store, Encodes, names_of, last_sequence, IsFileOf, IsStoreOf, StandsFor, root_of, HoldsTree}
 use Rattle.std.specs.FinMap as finite
 use Rattle.store_model.specs.Trees.{file_tree}
 use Rattle.store_model.proofs.Once.{store_once}
@@ -7,6 +7,7 @@ use Rattle.store_model.proofs.Roots.{root_of_name}
 use Rattle.store_model.proofs.Sound.{sound_of_right}
 use Rattle.store_model.proofs.Unfolding.{bytes_agree}
 use Rattle.base_model.proofs.Checks.{both}
+use Rattle.store_model.proofs.Roots.{HasRoot}
 
 -- ---- one map of files
 

@@ -1,14 +1,8 @@
 -- What refusals of several steps have in common (docs/MODEL.md, 'Refusals').
-use Rattle.std.specs.Prelude.{◌≡◌, ℕ, ◌==◌, if◌then◌else◌, List, length, Some}
-use Rattle.std.specs.FinMap as finite
+use Rattle.std.specs.Prelude.{◌≡◌, ℕ, ◌==◌, if◌then◌else◌, List, length}
 use Rattle.sha2.specs.Sha256.{sha256}
 use Rattle.base_model.specs.Bytes.{range, key_of}
 use Rattle.disk_format.specs.Cells.{Root}
-use Rattle.store_model.specs.Image.{Store, names_of}
-
--- the name has this root
-abbrev pub HasRoot : List ℕ → Root → Store → Type 0
-HasRoot name root store = (sequence : ℕ) × (finite.get (names_of store) name ≡ Some (record { sequence = sequence; root = root }))
 
 -- the key of a root's segment
 abbrev pub root_key : Root → List ℕ

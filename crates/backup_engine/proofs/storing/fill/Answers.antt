@@ -26,7 +26,8 @@ loop-count-preserved g c =
     record {
       running = fed.running;
       ongoing = rw c.hash_full.ensures (fed.ended ∙ c.loop-count.invariant.ongoing);
-      so_far = rw c.hash_full.ensures (fill_on _ g.C.HasState.state _ _ _ _ _ _ c.loop-count.invariant.so_far _ _ _ read.bytes read.cause.done c.sessions_have_laws.ensures c.can_be_pushed.ensures _
+      so_far = rw c.hash_full.ensures (fill_on _ g.C.HasState.state _ _ _ _ _ _ c.loop-count.invariant.so_far _ _ _ read.bytes read.cause.done
+          c.sessions_have_laws.ensures c.can_be_pushed.ensures _
           c.first.ensures _ _ fed.feeds fed.ended);
     }
 

@@ -49,11 +49,13 @@ returns-in_err-get_str-4-clause-load c =
 pub returns-in_err-get_str-5-clause-load : goal.returns-in_err-get_str-5-clause-load
 returns-in_err-get_str-5-clause-load c =
     ap (option_map load_value) c.from_residual-in_err-get_str-5.ensures
-    ∙ found (found_of c.args.matches.now) (Some c.in_ok-get_str.field-0.now) (Some c.in_ok-get_str-2.field-0.now) (Some c.in_ok-get_str-3.field-0.now) (Some c.in_ok-get_str-4.field-0.now) None
+    ∙ found (found_of c.args.matches.now) (Some c.in_ok-get_str.field-0.now) (Some c.in_ok-get_str-2.field-0.now) (Some c.in_ok-get_str-3.field-0.now)
+    (Some c.in_ok-get_str-4.field-0.now) None
     c.in_ok-get_str.ensures c.in_ok-get_str-2.ensures c.in_ok-get_str-3.ensures c.in_ok-get_str-4.ensures c.in_err-get_str-5.ensures
 
 pub returns-clause-load : goal.returns-clause-load
 returns-clause-load c =
     c.read_load.ensures.load
-    ∙ found (found_of c.args.matches.now) (Some c.in_ok-get_str.field-0.now) (Some c.in_ok-get_str-2.field-0.now) (Some c.in_ok-get_str-3.field-0.now) (Some c.in_ok-get_str-4.field-0.now) (Some c.in_ok-get_str-5.field-0.now)
+    ∙ found (found_of c.args.matches.now) (Some c.in_ok-get_str.field-0.now) (Some c.in_ok-get_str-2.field-0.now) (Some c.in_ok-get_str-3.field-0.now)
+    (Some c.in_ok-get_str-4.field-0.now) (Some c.in_ok-get_str-5.field-0.now)
     c.in_ok-get_str.ensures c.in_ok-get_str-2.ensures c.in_ok-get_str-3.ensures c.in_ok-get_str-4.ensures c.in_ok-get_str-5.ensures

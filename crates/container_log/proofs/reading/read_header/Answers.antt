@@ -28,7 +28,8 @@ pub returns-clause-reach : goal.returns-clause-reach
 returns-clause-reach g c =
     let first : List ℕ = c.read_part.new.into ++ drop 4096 c.args.raw.now in
     let count = same_count 4096 c.read_more.new.raw first (omega arith) c.in_ok-read_more.ensures.first in
-    reach c.header_end-end.result c.read_more.new.raw (omega (arith, c.if-end-le-FIRST_READ.false)) (omega (arith, c.header_end-end.ensures.before_data, c.in_ok-read_more.ensures.length))
+    reach c.header_end-end.result c.read_more.new.raw (omega (arith, c.if-end-le-FIRST_READ.false))
+    (omega (arith, c.header_end-end.ensures.before_data, c.in_ok-read_more.ensures.length))
     (omega (arith, ap end_of count, c.header_end-end.ensures.end))
 
 pub returns-clause-shown : goal.returns-clause-shown

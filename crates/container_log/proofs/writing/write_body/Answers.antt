@@ -42,7 +42,8 @@ returns-in_err-write_unsynced-clause-digest g c = not_ok c.from_residual.result 
 pub returns-in_err-write_unsynced-clause-wrote : goal.returns-in_err-write_unsynced-clause-wrote
 returns-in_err-write_unsynced-clause-wrote g c =
     let body = drop 1 c.encode-header_digest.new.image in
-    passed (λ e. Wrote (Torn (slot_at c.args.slot + 1) (length body)) (Puts (slot_at c.args.slot + 1) body) e (g.D.Disk.view c.args.disk.now) (g.D.Disk.view c.write_unsynced.new.disk))
+    passed (λ e. Wrote (Torn (slot_at c.args.slot + 1) (length body)) (Puts (slot_at c.args.slot + 1) body) e (g.D.Disk.view c.args.disk.now)
+    (g.D.Disk.view c.write_unsynced.new.disk))
     (λ _. WriteCall) c.from_residual.result c.in_err-write_unsynced.field-0.0 c.from_residual.ensures.1
     (wrote_rest c.slot_at.result (slot_at c.args.slot) c.encode-header_digest.new.image Broken (g.D.Disk.view c.args.disk.now) (g.D.Disk.view c.write_unsynced.new.disk)
     c.slot_at.ensures c.in_err-write_unsynced.ensures)

@@ -31,7 +31,8 @@ loop-index-preserved c =
     let slots = c.args.slots.now in
     let more : c.loop-index.index < length slots = omega arith in
     record {
-      fewer = subst (λ (xs : List ℕ). HoldsFewer c.args.tables.now xs (record c.loop-index.tables { held = c.give_back.new.self })) (sym (take_more slots c.loop-index.index 0 more))
+      fewer = subst (λ (xs : List ℕ). HoldsFewer c.args.tables.now xs (record c.loop-index.tables { held = c.give_back.new.self }))
+          (sym (take_more slots c.loop-index.index 0 more))
           (fewer_more c.args.tables.now c.loop-index.tables (take c.loop-index.index slots) (slice_index_or slots c.loop-index.index 0) c.give_back.new.self
           c.loop-index.invariant.fewer c.give_back.ensures.holds c.give_back.ensures.last);
     }

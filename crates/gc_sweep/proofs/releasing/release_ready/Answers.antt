@@ -35,7 +35,8 @@ pub take_released-requires-clause-few : goal.take_released-requires-clause-few
 take_released-requires-clause-few g c =
     let under = c.requires.under_way in
     let freed = subst (λ (slots : List ℕ). HasFreed c.args.tables.now slots c.give_back_all.new.tables) c.deref.ensures.value c.in_ok-give_back_all.ensures.ok in
-    many_now (g.D.Disk.view c.args.disk.now).size c.args.source c.args.entry under.0 c.requires.runs.0 c.args.tables.now c.give_back_all.new.tables c.args.sweep.now c.requires.runs.1
+    many_now (g.D.Disk.view c.args.disk.now).size c.args.source c.args.entry under.0 c.requires.runs.0 c.args.tables.now c.give_back_all.new.tables c.args.sweep.now
+    c.requires.runs.1
     c.requires.next freed under.1
 
 pub take_released-requires-clause-counts : goal.take_released-requires-clause-counts

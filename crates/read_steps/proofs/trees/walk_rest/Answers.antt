@@ -2,7 +2,8 @@ use Rattle.std.proofs.Common.{Bool, subst, ◌∙◌}
 use Rattle.base_model.proofs.Outcome.{passed_on}
 use Rattle.dd_disk.proofs.Ended.{reads_on}
 use Rattle.dd_disk.specs.Ending.{Done}
-use Rattle.read_steps.specs.Trees.{Walks, ahead_of, walk_state}
+use Rattle.read_steps.specs.Trees.{Walks, walk_state}
+use Rattle.read_steps.proofs.Walked.{ahead_of}
 use Rattle.read_steps.proofs.TreeWalks.{indexed_on, walk_stops, walks_next}
 use Rattle.read_steps.proofs.trees.walk_rest.Goals as goal
 

@@ -2,7 +2,8 @@ use Rattle.std.proofs.Common.{◌≡◌, ◌+◌, length}
 use Rattle.std.specs.Prelude.{if◌then◌else◌}
 use Rattle.container_meta.specs.declared.place.Place.{Place}
 use Rattle.dd_disk.specs.Ending.{Done, Reads}
-use Rattle.read_steps.specs.Trees.{IsHeld, Walks, WhereHeld, ahead_of, walk_state}
+use Rattle.read_steps.specs.Trees.{IsHeld, Walks, WhereHeld, walk_state}
+use Rattle.read_steps.proofs.Walked.{ahead_of}
 use Rattle.read_steps.specs.Visiting.{steps_ahead}
 use Rattle.read_steps.proofs.trees.walk_rest.Given as goal
 

@@ -50,7 +50,8 @@ loop-file-preserved g c =
     record {
       walking = walking_all_more M R c.args.index.now c.loop-file.index c.walk_tree.new.index (view c.args.disk.now) (view c.loop-file.disk) (view c.walk_tree.new.disk)
           (take k (map listed_value files))
-          (take (k + 1) (map listed_value files)) (listed_value c.file-item.result) c.loop-file.passed c.walk_tree.new.passed c.args.notes.now c.loop-file.notes c.walk_tree.new.notes
+          (take (k + 1) (map listed_value files)) (listed_value c.file-item.result) c.loop-file.passed c.walk_tree.new.passed c.args.notes.now c.loop-file.notes
+          c.walk_tree.new.notes
           so_far
           (file_taken files k c.file-item.result c.loop-file-test.true c.file-item.is) c.in_ok-walk_tree.ensures.walks
           c.walk_tree.ensures.index c.in_ok-walk_tree.ensures.reads;
@@ -82,7 +83,8 @@ returns-clause-once g c =
     let files = c.args.files.now in
     record {
       nodes = c.loop-file.passed;
-      walks = subst (λ (roots : List NamedRoot). WalksRoots M R c.args.index.now (view c.args.disk.now) (view c.loop-file.disk) roots (walk_state M [] finite.empty c.args.notes.now)
+      walks = subst (λ (roots : List NamedRoot). WalksRoots M R c.args.index.now (view c.args.disk.now) (view c.loop-file.disk) roots
+          (walk_state M [] finite.empty c.args.notes.now)
           (walk_state M [] c.loop-file.passed c.loop-file.notes))
           (take_all c.loop-file.file-index (map listed_value files) (omega (arith, c.loop-file-test.false, length-map files listed_value))) c.loop-file.invariant.walking.walks;
     }

@@ -1,7 +1,7 @@
 use Rattle.std.proofs.Common.{◌≡◌, length, map, take}
 use Rattle.container_meta.specs.declared.place.Place.{Place}
 use Rattle.namespace.specs.Listing.{listed_value}
-use Rattle.read_steps.specs.Trees.{IsWalkingAll}
+use Rattle.read_steps.proofs.Walked.{IsWalkingAll}
 use Rattle.read_steps.proofs.trees.walk_trees.Given as goal
 
 abbrev pub invariant-loop-file : goal.invariant-loop-file

@@ -16,7 +16,8 @@ pub returns-clause-marks : goal.returns-clause-marks
 returns-clause-marks g c =
     let view = g.D.Disk.view in
     marks_for c.args.index.now (view c.args.disk.now) (view c.walk_trees.new.disk) (listing_of c.args.names.now) (map listed_value c.names.result.now) c.in_ok-marks.marks
-    c.walk_trees.new.notes c.into_slots.result.items c.args.slots c.in_ok-marks.ensures c.in_ok-walk_trees.ensures.notes c.into_slots.ensures (c.names.ensures ∙ c.in_ok-files.ensures)
+    c.walk_trees.new.notes c.into_slots.result.items c.args.slots c.in_ok-marks.ensures c.in_ok-walk_trees.ensures.notes c.into_slots.ensures
+    (c.names.ensures ∙ c.in_ok-files.ensures)
 
 pub returns-clause-size : goal.returns-clause-size
 returns-clause-size g c =

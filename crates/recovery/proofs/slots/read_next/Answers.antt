@@ -39,7 +39,8 @@ returns-then-not-branch-clause-refused g c = λ before are.
     let used = (are header.id).1 (found_by _ (sym c.in_ok-insert.ensures.added ∙ c.if-not-branch.true)) in (
       c.slot_at.ensures,
       subst (HoldsDamage (Shows (view c.args.disk.now) (view c.read_one.new.disk)) (λ bytes. IsSlotDamage before bytes (Field 8 header.id))) (sym c.slot_at.ensures)
-          (used_id _ before c.args.slot h right used (weaker _ _ (λ image sized holds. ap (λ (n : ℕ). range (slot_at c.args.slot) n image) (length-header_spelling h right) ∙ holds.1)
+          (used_id _ before c.args.slot h right used (weaker _ _
+          (λ image sized holds. ap (λ (n : ℕ). range (slot_at c.args.slot) n image) (length-header_spelling h right) ∙ holds.1)
           seen)),
     )
 

@@ -1,7 +1,8 @@
 use Rattle.std.proofs.Common.{◌≡◌, length, refl, sym, ◌∙◌, ap, subst, arith}
 use Rattle.base_model.specs.Bytes.{written}
 use Rattle.dd_disk.specs.Writes.{Torn}
-use Rattle.dd_disk.specs.Calls.{CrashSteps, first_of, images_of}
+use Rattle.dd_disk.specs.Calls.{first_of, images_of}
+use Rattle.dd_disk.proofs.Memories.{CrashSteps}
 use Rattle.dd_disk.proofs.Images.{torn_same}
 use Rattle.dd_disk.proofs.Memories.{no_fewer, view_later, view_leaves}
 use Rattle.dd_disk.proofs.Noting.{stands, missed_stands, missed_follows, missed_time, made_stands, made_images, made_leaves, made_time}

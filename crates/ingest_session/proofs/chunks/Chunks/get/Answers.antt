@@ -1,20 +1,14 @@
-use Rattle.ingest_session.proofs.Prelude.{ℕ, ◌-◌, ◌*◌, ◌⊎◌, false, inl, inr, true, ◌+◌, ◌≡◌, ◌<◌, ◌≤◌, ◌∙◌, [], ap, arith, drop, length, refl, subst, sym}
-use Rattle.std.proofs.Common.{deque_capacity, get_or, ◌%◌, ◌/◌}
+use Rattle.ingest_session.proofs.Prelude.{ℕ, ◌-◌, ◌*◌, ◌⊎◌, false, inl, inr, true, ◌+◌, ◌≡◌, ◌<◌, ◌≤◌, ◌∙◌, [], ap, arith, length, refl, subst, sym}
+use Rattle.std.proofs.Common.{get_or, ◌%◌, ◌/◌}
 use Rattle.std.proofs.lemmas.Bool.{both_ways, cases_lt}
 use Rattle.std.proofs.lemmas.List.{get_or-drop}
 use Rattle.digests.specs.Texts.{Texts}
 use Rattle.ingest_session.specs.declared.chunks.Chunks.TheInside.{Inside}
 use Rattle.ingest_session.specs.declared.chunks.TheConstants.{CHUNK}
-use Rattle.ingest_session.specs.Buffers.{AreChunks, Waiting, all_in}
-use Rattle.ingest_session.proofs.Buffered.{all_long, nth_full, nth_last, waiting_long}
+use Rattle.ingest_session.specs.Buffers.{Waiting, all_in}
+use Rattle.ingest_session.proofs.Buffered.{Stand, waiting, all_long, nth_full, nth_last, waiting_long}
 use Rattle.ingest_session.proofs.chunks.Chunks.get.Goals as goal
 use Rattle.ingest_session.proofs.chunks.Chunks.get.Goals.{After-len}
-
-abbrev waiting : Inside → Waiting
-waiting i = record { most = i.most; segments = drop i.gone (all_in i.full.items i.last) }
-
-abbrev Stand : Inside → Type 0
-Stand i = AreChunks i.most i.count i.gone i.full.items (deque_capacity i.full) i.last i.spare
 
 is_there : (i : Inside) (now : Waiting) (n : ℕ) → Stand i → waiting i ≡ now → n < length now.segments → n < i.count
 is_there i now n are is within =

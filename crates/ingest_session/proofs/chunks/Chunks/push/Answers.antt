@@ -3,16 +3,10 @@ use Rattle.std.proofs.Common.{deque_capacity}
 use Rattle.std.proofs.lemmas.List.{nil_from_length}
 use Rattle.ingest_session.specs.declared.chunks.Chunks.TheInside.{Inside}
 use Rattle.ingest_session.specs.declared.chunks.TheConstants.{CHUNK}
-use Rattle.ingest_session.specs.Buffers.{AreChunks, Waiting, all_in}
-use Rattle.ingest_session.proofs.Buffered.{chunk_long, has_spare, in_last, then_spare, waiting_long, with_segment, with_spare}
+use Rattle.ingest_session.specs.Buffers.{Waiting, all_in}
+use Rattle.ingest_session.proofs.Buffered.{Stand, waiting, chunk_long, has_spare, in_last, then_spare, waiting_long, with_segment, with_spare}
 use Rattle.ingest_session.proofs.chunks.Chunks.push.Goals as goal
 use Rattle.ingest_session.proofs.chunks.Chunks.push.Goals.{After-push_reserved-arg-1, In-None, then-len-eq-CHUNK+in-Some, else-len-eq-CHUNK}
-
-abbrev waiting : Inside → Waiting
-waiting i = record { most = i.most; segments = drop i.gone (all_in i.full.items i.last) }
-
-abbrev Stand : Inside → Type 0
-Stand i = AreChunks i.most i.count i.gone i.full.items (deque_capacity i.full) i.last i.spare
 
 has_room : (i : Inside) (now : Waiting) → Stand i → waiting i ≡ now → length now.segments ≤ now.most → i.count ≤ i.most
 has_room i now are is room =

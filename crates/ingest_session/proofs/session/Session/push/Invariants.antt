@@ -1,5 +1,6 @@
-use Rattle.ingest_session.proofs.Prelude.{◌≡◌, ◌≤◌, ◌+◌, ◌-◌, false, length, take, MOST_FILE, IsTaking, CutsFew}
+use Rattle.ingest_session.proofs.Prelude.{◌≡◌, ◌≤◌, ◌+◌, ◌-◌, false, length, take, MOST_FILE, IsTaking}
 use Rattle.ingest_session.proofs.session.Session.push.Given as goal
+use Rattle.ingest_session.proofs.Cuts.{CutsFew}
 
 abbrev pub invariant-loop-taken : goal.invariant-loop-taken
 invariant-loop-taken l = record {
